@@ -1,0 +1,12 @@
+use mathlib.Core.Path.{refl}
+use Prim.Native.Nat.{_*_, _<_, _^_}
+use native.Mathlib.Omega.{arith}
+use Rattle.std.proofs.shelf.Bits.{mul-lt}
+use Rattle.clauses.proofs.panel.reach.Needs as need
+
+pub returns : need.returns
+returns c =
+    let f = c .args .factor in
+    let s = c .args .panel .spacing in
+    let a : f * s < 2 ^ 32 = mul-lt f s (2 ^ 16) (2 ^ 16) (omega arith) (omega arith) in
+    record { value = refl; bound = mul-lt (f * s) (c .args .aspect) (2 ^ 32) (2 ^ 16) a (omega arith) }

@@ -1,0 +1,4 @@
+pub mod Rounding
+pub mod Least
+pub mod Panels
+pub mod Clauses
