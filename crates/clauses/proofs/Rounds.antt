@@ -17,6 +17,6 @@ rounds-value n d q pos enough close =
 
 pub rounds : (n d q : ℕ) → 0 < d → n ≤ q * d → q * d < n + d → RoundedUp n d q
 rounds n d q pos enough close = record {
-  enough = enough;
+  enough = λ _. enough;
   least = λ t h. ⊎-elim (λ below. absurd (let e = next t d in let k = mul-le (t + 1) d q d (omega arith) (omega arith) in omega arith)) (λ above. above) (cases-lt t q);
 }

@@ -1,13 +1,13 @@
 -- Rounding: every division, half and per cent of a rule goes up to a whole number.
-use Prim.Native.Nat.{ℕ, _+_, _-_, _*_, _/_, _≤_, min}
+use Prim.Native.Nat.{ℕ, _+_, _-_, _*_, _/_, _≤_, _<_, min}
 
 -- n / d, rounded up
 abbrev pub divided-up : ℕ → ℕ → ℕ
 divided-up n d = (n + (d - 1)) / d
 
--- r is n / d rounded up: the least number of which d times is no less than n
+-- r is n / d rounded up: the least number of which d times is no less than n, or 0 where d is 0
 pub record RoundedUp (n d r : ℕ) : Type 0 where
-  pub enough : n ≤ r * d
+  pub enough : 0 < d → n ≤ r * d
   pub least : (t : ℕ) → n ≤ t * d → r ≤ t
 
 -- so many per cent of n

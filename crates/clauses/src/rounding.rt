@@ -1,6 +1,5 @@
 //! Every division of a rule rounds up, and every size ends at 60,001.
 ghost use mathlib.Core.Path.{_≡_};
-ghost use Prim.Native.Nat.{_<_};
 ghost use Rattle.clauses.specs.Rounding.{divided-up, RoundedUp, per-cent, ended};
 
 /// The end of sizes: one above the largest.
@@ -9,7 +8,7 @@ pub const END: u16 = 60_001;
 /// `n / d` rounded up; 0 where `d` is 0.
 pub fn divided_up(n: u128, d: u128) -> u128
     ensures value { λ r. ⌜ r ≡ divided-up n d ⌝ }
-    ensures least { λ r. ⌜ (0 < d → RoundedUp n d r) ⌝ }
+    ensures least { λ r. ⌜ RoundedUp n d r ⌝ }
 {
     if d == 0 {
         return 0;

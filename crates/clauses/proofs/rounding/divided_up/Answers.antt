@@ -13,7 +13,7 @@ returns-then-n-d-eq0 c =
     let whole = div-add-mod' n d in
     let enough : n ≤ n / d * d = omega arith in
     let close : n / d * d < n + d = omega arith in
-    record { value = sym (rounds-value n d (n / d) (omega arith) enough close); least = λ pos. rounds n d (n / d) pos enough close }
+    record { value = sym (rounds-value n d (n / d) (omega arith) enough close); least = rounds n d (n / d) (omega arith) enough close }
 
 pub returns-else-n-d-eq0 : need.returns-else-n-d-eq0
 returns-else-n-d-eq0 c =
@@ -25,4 +25,4 @@ returns-else-n-d-eq0 c =
     let one = one-mul d in
     let enough : n ≤ (n / d + 1) * d = omega arith in
     let close : (n / d + 1) * d < n + d = omega arith in
-    record { value = sym (rounds-value n d (n / d + 1) (omega arith) enough close); least = λ pos. rounds n d (n / d + 1) pos enough close }
+    record { value = sym (rounds-value n d (n / d + 1) (omega arith) enough close); least = rounds n d (n / d + 1) (omega arith) enough close }
