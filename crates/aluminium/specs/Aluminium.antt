@@ -36,7 +36,7 @@ panel-factor line = by-kind (line .kind) (41 says 250 ∷ 42 says 258 ∷ 43 say
 -- 58 collision or tank bulkhead, 59 watertight bulkhead
 abbrev pub stiffener-factor : Entry → ℕ
 stiffener-factor line = by-kind (line .kind)
-    ( 51 says 115 ∷ 52 says 135
+    (51 says 115 ∷ 52 says 135
     ∷ 53 says 130 ∷ 54 says 150
     ∷ 55 says 130 ∷ 56 says 150
     ∷ 57 says 150 ∷ 58 says 130 ∷ 59 says 120

@@ -78,7 +78,10 @@ fn modulus_of(line: Entry) -> u128
     ensures { λ r. ⌜ r ≡ divided-up (bending (stiffener-factor line) line * line .pressure) (10 ^ 7 * line .strength) ⌝ }
 {
     let bending = bending_of(factor_of_stiffener(line), line);
-    divided_up(bending * line.pressure as u128, 10_000_000 * line.strength as u128)
+    divided_up(
+        bending * line.pressure as u128,
+        10_000_000 * line.strength as u128,
+    )
 }
 
 // The own size that the clauses ask for, not yet ended.
@@ -86,7 +89,9 @@ fn own_clause(hull: Hull, line: Entry) -> u128
     ensures { λ r. ⌜ r ≡ own hull line ⌝ }
 {
     match line.kind {
-        41..=46 => thickness_of(factor_of_panel(line), factor_of_aspect(line), line).max(200) as u128,
+        41..=46 => thickness_of(factor_of_panel(line), factor_of_aspect(line), line).max(
+            200,
+        ) as u128,
         47 => 200,
         51..=59 => modulus_of(line),
         _ => 0,
@@ -119,10 +124,18 @@ pub impl RuleBook for Aluminium as AluminiumBook {
     }
 
     fn own_size(&mut self, hull: Hull, line: Entry) -> u16 {
-        if line_fits(hull, line) { end_size(own_clause(hull, line)) } else { 0 }
+        if line_fits(hull, line) {
+            end_size(own_clause(hull, line))
+        } else {
+            0
+        }
     }
 
     fn pull(&mut self, hull: Hull, line: Entry, neighbour: Entry, size: u16) -> u16 {
-        if line_fits(hull, line) { end_size(pull_clause(line, neighbour, size)) } else { 0 }
+        if line_fits(hull, line) {
+            end_size(pull_clause(line, neighbour, size))
+        } else {
+            0
+        }
     }
 }

@@ -56,7 +56,7 @@ keelson divisor hull = divided-up (hull .length + 11750) divisor
 -- 25 floor web at least 4 mm; 30 floor and 31 bottom longitudinal by the head of water
 abbrev pub own : Hull → Entry → ℕ
 own hull line = by-kind (line .kind)
-    ( 21 says cond (calm hull) 600 800
+    (21 says cond (calm hull) 600 800
     ∷ 22 says cond (calm hull) 500 700
     ∷ 23 says keelson (cond (near-engine line) 20 25) hull
     ∷ 24 says cond (near-engine line) (keelson 25 hull) (divided-up (3 * hull .length + 35000) 100)
@@ -69,7 +69,7 @@ own hull line = by-kind (line .kind)
 -- 27 inner bottom: 85 per cent of the shell; 28 bulwark: 80 per cent; 29 joining angle: half of the shell and half of the deck
 abbrev pub pulls : Entry → List Pull
 pulls line =
-    ( on 25 by 23 to (λ size. cond (at-engine-seat line) size 0)
+    (on 25 by 23 to (λ size. cond (at-engine-seat line) size 0)
     ∷ on 26 by 25 to (λ size. size)
     ∷ on 27 by 21 to (λ size. per-cent 85 size)
     ∷ on 28 by 21 to (λ size. per-cent 80 size)

@@ -38,7 +38,11 @@ fn greater_head(hull: Hull, line: Entry) -> u32
 {
     let over = 1_000 * hull.draught as i64 + 26 * hull.length as i64 - 1_000 * line.height as i64;
     let half = 500 * hull.depth as i64;
-    if over > half { over as u32 } else { half as u32 }
+    if over > half {
+        over as u32
+    } else {
+        half as u32
+    }
 }
 
 /// The head of water on a member, in thousandths of a millimetre.
@@ -54,7 +58,10 @@ pub fn head_on(hull: Hull, line: Entry) -> u32
 fn modulus_of(factor: u16, hull: Hull, line: Entry) -> u128
     ensures { λ r. ⌜ r ≡ modulus factor hull line ⌝ }
 {
-    divided_up(bending_of(factor, line) * head_on(hull, line) as u128, 10_000_000_000_000)
+    divided_up(
+        bending_of(factor, line) * head_on(hull, line) as u128,
+        10_000_000_000_000,
+    )
 }
 
 // The web of the centre keelson.
@@ -115,10 +122,18 @@ pub impl RuleBook for Plastic as PlasticBook {
     }
 
     fn own_size(&mut self, hull: Hull, line: Entry) -> u16 {
-        if line_fits(hull, line) { end_size(own_clause(hull, line)) } else { 0 }
+        if line_fits(hull, line) {
+            end_size(own_clause(hull, line))
+        } else {
+            0
+        }
     }
 
     fn pull(&mut self, hull: Hull, line: Entry, neighbour: Entry, size: u16) -> u16 {
-        if line_fits(hull, line) { end_size(pull_clause(line, neighbour, size)) } else { 0 }
+        if line_fits(hull, line) {
+            end_size(pull_clause(line, neighbour, size))
+        } else {
+            0
+        }
     }
 }
