@@ -1,0 +1,3 @@
+//! Stocks of sizes.
+
+pub mod build_up;
