@@ -1,3 +1,4 @@
 pub mod Grounds
+pub mod Questions
 pub mod Rules
 pub mod Stocks

@@ -1,9 +1,10 @@
 //! The grounds of refusal, each with its number.
 ghost use mathlib.Core.Path.{_≡_};
+ghost use Rattle.std.specs.Orderings.{Decides};
 ghost use Rattle.terms.specs.Grounds.{numberOf};
 
 /// Why a call is refused. The number is the case's value.
-#[derive(Clone, Copy, PartialEq, Eq, Debug)]
+#[derive(Clone, Copy, Eq, Debug)]
 pub enum Ground {
     /// the hull's length is not from 5,000 to 19,999
     LengthOutOfRange = 11,
@@ -77,5 +78,14 @@ impl Ground {
         ensures { λ r. ⌜ r ≡ numberOf self ⌝ }
     {
         self as u8
+    }
+}
+
+// No two grounds have one number.
+pub impl PartialEq<Ground> for Ground as GroundPartialEq {
+    ghost equals = { λ a b r. Decides r (a ≡ b) };
+
+    fn eq(&self, other: &Ground) -> bool {
+        self.number() == other.number()
     }
 }

@@ -4,5 +4,7 @@ pub mod book;
 pub mod entry;
 pub mod ground;
 pub mod hull;
+pub mod hundredths;
+pub mod limits;
 pub mod refusal;
 pub mod stock;
