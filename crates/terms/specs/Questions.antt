@@ -30,7 +30,7 @@ between low high n = leb low n && leb n high
 -- what is asked of a hull
 abbrev pub hull-questions : Hull → List Question
 hull-questions hull =
-    ( between 5000 19999 (hull .length) else LengthOutOfRange
+    (between 5000 19999 (hull .length) else LengthOutOfRange
     ∷ between 1000 8000 (hull .breadth) else BreadthOutOfRange
     ∷ between 400 4000 (hull .depth) else DepthOutOfRange
     ∷ between 100 (hull .depth) (hull .draught) else DraughtOutOfRange
@@ -50,7 +50,7 @@ keeps-limits line =
 -- what is asked of the entered values of a line, besides its mark
 abbrev pub value-questions : Entry → List Question
 value-questions line =
-    ( leb (line .place) 2 else PlaceUnknown
+    (leb (line .place) 2 else PlaceUnknown
     ∷ not (names-itself line) else NeighbourIsItself
     ∷ keeps-limits line else ValueOverLimit
     ∷ [])

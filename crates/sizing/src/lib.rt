@@ -1,0 +1,4 @@
+//! What each member of a list needs by itself.
+
+pub mod book;
+pub mod need;
