@@ -1,0 +1,6 @@
+//! Reads one line of a text sheet.
+
+pub mod form;
+pub mod series;
+pub mod statement;
+mod text;
