@@ -19,13 +19,18 @@ impl Form {
     pub fn of(word: &[u8]) -> Form
         ensures { λ r. ⌜ r ≡ form-of (now (word .entry)) ⌝ }
     {
-        match word {
-            b"book" => Form::Book,
-            b"plates" => Form::Plates,
-            b"stiffeners" => Form::Stiffeners,
-            b"hull" => Form::Hull,
-            b"enter" => Form::Enter,
-            _ => Form::Any,
+        if word == b"book" {
+            Form::Book
+        } else if word == b"plates" {
+            Form::Plates
+        } else if word == b"stiffeners" {
+            Form::Stiffeners
+        } else if word == b"hull" {
+            Form::Hull
+        } else if word == b"enter" {
+            Form::Enter
+        } else {
+            Form::Any
         }
     }
 }
