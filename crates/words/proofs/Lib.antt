@@ -1,0 +1,4 @@
+pub mod Bounds
+pub mod Cuts
+pub mod Names
+pub mod Values

@@ -1,0 +1,112 @@
+//! Reads one line of a text sheet.
+//!
+//! A sheet is a list of statements, one to a line. `#` begins a comment that goes to the end of the line. Words are
+//! kept apart by blanks: spaces, tabs and carriage returns. The statements are
+//!
+//!     book NUMBER
+//!     plates FIRST STEP COUNT
+//!     stiffeners FIRST STEP COUNT
+//!     hull L B D d WATER
+//!     enter MARK KIND PLACE NEIGHBOUR NEIGHBOUR s l P z STRENGTH AREA
+//!
+//! and each number is one or more digits.
+ghost use mathlib.Core.Path.{_≡_};
+ghost use Rattle.std.specs.Options.{mapped};
+ghost use Rattle.words.specs.Numbers.{numbers-of};
+ghost use Rattle.words.specs.Statements.{series-of, series-limits, statement-by, statement-of};
+ghost use Rattle.words.specs.Words.{words-of};
+
+pub mod form;
+mod numbers;
+pub mod series;
+pub mod statement;
+mod text;
+
+use form::Form;
+use numbers::numbers;
+use series::Series;
+use statement::Statement;
+use terms::entry::Entry;
+use terms::hull::Hull;
+use text::next_word;
+use text::without_comment;
+
+/// The greatest number of a field of one byte.
+const NARROW: u16 = 255;
+
+/// The greatest number of any other field.
+const WIDE: u16 = 65535;
+
+fn read_book(text: &[u8]) -> Option<Statement>
+    ensures { λ r. ⌜ r ≡ statement-by Form.Book (words-of (now (text .entry))) ⌝ }
+{
+    let [number] = numbers(text, [NARROW])?;
+    Some(Statement::Book(number as u8))
+}
+
+fn read_series(text: &[u8]) -> Option<Series>
+    ensures { λ r. ⌜ r ≡ mapped series-of (numbers-of series-limits (words-of (now (text .entry)))) ⌝ }
+{
+    let [first, step, count] = numbers(text, [WIDE, WIDE, WIDE])?;
+    Some(Series { first, step, count })
+}
+
+fn read_plates(text: &[u8]) -> Option<Statement>
+    ensures { λ r. ⌜ r ≡ statement-by Form.Plates (words-of (now (text .entry))) ⌝ }
+{
+    Some(Statement::Plates(read_series(text)?))
+}
+
+fn read_stiffeners(text: &[u8]) -> Option<Statement>
+    ensures { λ r. ⌜ r ≡ statement-by Form.Stiffeners (words-of (now (text .entry))) ⌝ }
+{
+    Some(Statement::Stiffeners(read_series(text)?))
+}
+
+fn read_hull(text: &[u8]) -> Option<Statement>
+    ensures { λ r. ⌜ r ≡ statement-by Form.Hull (words-of (now (text .entry))) ⌝ }
+{
+    let [length, breadth, depth, draught, water] = numbers(text, [WIDE, WIDE, WIDE, WIDE, NARROW])?;
+    Some(Statement::Hull(Hull { length, breadth, depth, draught, water: water as u8 }))
+}
+
+fn read_entry(text: &[u8]) -> Option<Statement>
+    ensures { λ r. ⌜ r ≡ statement-by Form.Enter (words-of (now (text .entry))) ⌝ }
+{
+    let [mark, kind, place, near, far, spacing, span, pressure, height, strength, area] = numbers(
+        text,
+        [WIDE, NARROW, NARROW, WIDE, WIDE, WIDE, WIDE, NARROW, WIDE, WIDE, WIDE],
+    )?;
+    Some(Statement::Enter(Entry {
+        mark,
+        kind: kind as u8,
+        place: place as u8,
+        near,
+        far,
+        spacing,
+        span,
+        pressure: pressure as u8,
+        height,
+        strength,
+        area,
+    }))
+}
+
+/// What a line says, or the form of statement that was expected of it.
+pub fn read_statement(line: &[u8]) -> Result<Statement, Form>
+    ensures { λ r. ⌜ r ≡ statement-of (now (line .entry)) ⌝ }
+{
+    let Some((word, rest)) = next_word(without_comment(line)) else {
+        return Ok(Statement::Nothing);
+    };
+    let form = Form::of(word);
+    let statement = match form {
+        Form::Any => None,
+        Form::Book => read_book(rest),
+        Form::Plates => read_plates(rest),
+        Form::Stiffeners => read_stiffeners(rest),
+        Form::Hull => read_hull(rest),
+        Form::Enter => read_entry(rest),
+    };
+    statement.ok_or(form)
+}
