@@ -1,2 +1,4 @@
 pub mod Needs
 pub mod Books
+pub mod Replies
+pub mod Shown

@@ -1,4 +1,6 @@
 //! What each member of a list needs by itself.
 
 pub mod book;
+pub mod given;
 pub mod need;
+pub mod reply;

@@ -1,11 +1,16 @@
 //! What one member needs by itself, from any rule book and two stocks.
 ghost use mathlib.Core.Path.{_≡_};
+ghost use Rattle.std.specs.declared.option.Option.the-variants.{Some};
 ghost use Rattle.terms.specs.Questions.{first-no};
+ghost use Rattle.sizing.specs.Shown.{needText, sizeText};
 ghost use Rattle.sizing.specs.Needs.{Needs, entry-questions};
+use std::fmt;
 use terms::book::RuleBook;
 use terms::entry::Entry;
 use terms::ground::Ground;
 use terms::hull::Hull;
+use terms::hundredths::Hundredths;
+use terms::hundredths::HundredthsDisplay;
 use terms::limits::value_fault;
 use terms::refusal::Refusal;
 use terms::stock::Stock;
@@ -16,6 +21,39 @@ pub struct Need {
     pub mark: u16,
     pub own: u16,
     pub order: Option<u16>,
+}
+
+// A size that ended at 60,001 is known only to be above the largest.
+#[derive(Clone, Copy)]
+struct OwnSize(u16);
+
+impl fmt::Display for OwnSize as OwnSizeDisplay {
+    ghost shown = { λ n. Some (sizeText (n .0)) };
+
+    fn fmt<W: fmt::Write>(&self, f: &mut fmt::Formatter<W>) -> fmt::Result {
+        if self.0 > 60_000 {
+            write!(f, "above 600.00")
+        } else {
+            let size = Hundredths(self.0);
+            write!(f, "{size}")
+        }
+    }
+}
+
+pub impl fmt::Display for Need as NeedDisplay {
+    ghost shown = { λ n. Some (needText n) };
+
+    fn fmt<W: fmt::Write>(&self, f: &mut fmt::Formatter<W>) -> fmt::Result {
+        let mark = self.mark;
+        let own = OwnSize(self.own);
+        match self.order {
+            Some(size) => {
+                let order = Hundredths(size);
+                write!(f, "{mark} own {own} order {order}")
+            }
+            None => write!(f, "{mark} own {own} none large enough"),
+        }
+    }
 }
 
 // The first ground on which a member is refused before a book is asked.

@@ -1,3 +1,4 @@
+pub mod Decimals
 pub mod Grounds
 pub mod Questions
 pub mod Rules

@@ -1,9 +1,6 @@
 //! A size as users read it, with two decimals.
-ghost use mathlib.Core.List.{_++_};
-ghost use Prim.Native.Nat.{_/_, _%_};
-ghost use lib.Chars.{codes};
 ghost use Rattle.std.specs.declared.option.Option.the-variants.{Some};
-ghost use Rattle.std.specs.Written.{decimal};
+ghost use Rattle.terms.specs.Decimals.{two-decimals};
 use std::fmt;
 
 /// A size in hundredths: of a millimetre for a plate, of a cubic centimetre for a stiffener's modulus.
@@ -11,7 +8,7 @@ use std::fmt;
 pub struct Hundredths(pub u16);
 
 pub impl fmt::Display for Hundredths as HundredthsDisplay {
-    ghost shown = { λ n. Some (decimal (n .0 / 100) ++ (codes "." ++ (decimal (n .0 / 10 % 10) ++ decimal (n .0 % 10)))) };
+    ghost shown = { λ n. Some (two-decimals (n .0)) };
 
     fn fmt<W: fmt::Write>(&self, f: &mut fmt::Formatter<W>) -> fmt::Result {
         let whole = self.0 / 100;
