@@ -1,7 +1,7 @@
 //! The rule book for aluminium fast craft.
 ghost use mathlib.Core.Path.{_≡_};
-ghost use Prim.Native.Nat.{_*_, _^_};
-ghost use Rattle.clauses.specs.Panels.{bending};
+ghost use Prim.Native.Nat.{_*_, _^_, max};
+ghost use Rattle.clauses.specs.Panels.{bending, panel-thickness};
 ghost use Rattle.clauses.specs.Rounding.{divided-up};
 ghost use Rattle.aluminium.specs.Aluminium.{aluminium, aluminium-law, stiffener, fits, panel-factor, stiffener-factor, aspect, own, pull};
 use clauses::panel::bending_of;
@@ -73,6 +73,14 @@ fn factor_of_aspect(line: Entry) -> u16
     }
 }
 
+// The thickness of a panel under its pressure, and never below 2 mm.
+fn thickness_of_panel(line: Entry) -> u16
+    ensures { λ r. ⌜ r ≡ max (panel-thickness (panel-factor line) (aspect line) line) 200 ⌝ }
+{
+    let least = thickness_of(factor_of_panel(line), factor_of_aspect(line), line);
+    least.max(200)
+}
+
 // The modulus of a stiffener.
 fn modulus_of(line: Entry) -> u128
     ensures { λ r. ⌜ r ≡ divided-up (bending (stiffener-factor line) line * line .pressure) (10 ^ 7 * line .strength) ⌝ }
@@ -89,9 +97,7 @@ fn own_clause(hull: Hull, line: Entry) -> u128
     ensures { λ r. ⌜ r ≡ own hull line ⌝ }
 {
     match line.kind {
-        41..=46 => thickness_of(factor_of_panel(line), factor_of_aspect(line), line).max(
-            200,
-        ) as u128,
+        41..=46 => thickness_of_panel(line) as u128,
         47 => 200,
         51..=59 => modulus_of(line),
         _ => 0,

@@ -6,12 +6,18 @@ ghost use Rattle.clauses.specs.Panels.{bending, stands, panel-thickness};
 use crate::rounding::END;
 use terms::entry::Entry;
 
-/// What a stiffener's section modulus grows with: its factor, its spacing, and its span twice.
+fn bending_product(factor: u16, line: Entry) -> u128
+    ensures { λ r. ⌜ r ≡ bending factor line ⌝ }
+{
+    factor as u128 * line.spacing as u128 * line.span as u128 * line.span as u128
+}
+
+/// What a stiffener's section modulus grows with: its factor, its spacing, and its span twice. The bound leaves room for one factor more.
 pub fn bending_of(factor: u16, line: Entry) -> u128
     ensures value { λ r. ⌜ r ≡ bending factor line ⌝ }
     ensures bound { λ r. ⌜ r < 2 ^ 64 ⌝ }
 {
-    factor as u128 * line.spacing as u128 * line.span as u128 * line.span as u128
+    bending_product(factor, line)
 }
 
 // A product of three, with its bound.

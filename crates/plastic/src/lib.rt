@@ -32,26 +32,16 @@ fn line_fits(hull: Hull, line: Entry) -> bool
         }
 }
 
-// The greater of the two heads of water; high above the water the first is negative.
-fn greater_head(hull: Hull, line: Entry) -> u32
-    ensures { λ r. ⌜ r ≡ head hull line ⌝ }
-{
-    let over = 1_000 * hull.draught as i64 + 26 * hull.length as i64 - 1_000 * line.height as i64;
-    let half = 500 * hull.depth as i64;
-    if over > half {
-        over as u32
-    } else {
-        half as u32
-    }
-}
-
-/// The head of water on a member, in thousandths of a millimetre.
+/// The head of water on a member, in thousandths of a millimetre. High above the water the first of the two heads is
+/// negative, and counts as none.
 pub fn head_on(hull: Hull, line: Entry) -> u32
     ensures value { λ r. ⌜ r ≡ head hull line ⌝ }
     ensures greater { λ r. ⌜ GreaterHead hull line r ⌝ }
     ensures bound { λ r. ⌜ r < 2 ^ 27 ⌝ }
 {
-    greater_head(hull, line)
+    let surface = 1_000 * hull.draught as u32 + 26 * hull.length as u32;
+    let over = surface.saturating_sub(1_000 * line.height as u32);
+    over.max(500 * hull.depth as u32)
 }
 
 // A stiffener's modulus under its head of water.

@@ -67,15 +67,45 @@ fn read_hull(text: &[u8]) -> Option<Statement>
     ensures { λ r. ⌜ r ≡ statement-by Form.Hull (words-of (now (text .entry))) ⌝ }
 {
     let [length, breadth, depth, draught, water] = numbers(text, [WIDE, WIDE, WIDE, WIDE, NARROW])?;
-    Some(Statement::Hull(Hull { length, breadth, depth, draught, water: water as u8 }))
+    Some(Statement::Hull(Hull {
+        length,
+        breadth,
+        depth,
+        draught,
+        water: water as u8,
+    }))
 }
 
 fn read_entry(text: &[u8]) -> Option<Statement>
     ensures { λ r. ⌜ r ≡ statement-by Form.Enter (words-of (now (text .entry))) ⌝ }
 {
-    let [mark, kind, place, near, far, spacing, span, pressure, height, strength, area] = numbers(
+    let [
+        mark,
+        kind,
+        place,
+        near,
+        far,
+        spacing,
+        span,
+        pressure,
+        height,
+        strength,
+        area,
+    ] = numbers(
         text,
-        [WIDE, NARROW, NARROW, WIDE, WIDE, WIDE, WIDE, NARROW, WIDE, WIDE, WIDE],
+        [
+            WIDE,
+            NARROW,
+            NARROW,
+            WIDE,
+            WIDE,
+            WIDE,
+            WIDE,
+            NARROW,
+            WIDE,
+            WIDE,
+            WIDE,
+        ],
     )?;
     Some(Statement::Enter(Entry {
         mark,

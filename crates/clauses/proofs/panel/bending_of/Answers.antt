@@ -1,4 +1,3 @@
-use mathlib.Core.Path.{refl}
 use Prim.Native.Nat.{_*_, _<_, _^_}
 use native.Mathlib.Omega.{arith}
 use Rattle.std.proofs.shelf.Bits.{mul-lt}
@@ -11,4 +10,5 @@ returns c =
     let l = c .args .line .span in
     let a : f * s < 2 ^ 32 = mul-lt f s (2 ^ 16) (2 ^ 16) (omega arith) (omega arith) in
     let b : f * s * l < 2 ^ 48 = mul-lt (f * s) l (2 ^ 32) (2 ^ 16) a (omega arith) in
-    record { value = refl; bound = mul-lt (f * s * l) l (2 ^ 48) (2 ^ 16) b (omega arith) }
+    let d = mul-lt (f * s * l) l (2 ^ 48) (2 ^ 16) b (omega arith) in
+    record { value = c .bending-product .ensures; bound = omega (arith, c .bending-product .ensures) }
