@@ -110,3 +110,36 @@ pub fn read_statement(line: &[u8]) -> Result<Statement, Form>
     };
     statement.ok_or(form)
 }
+
+#[cfg(test)]
+mod tests {
+    use super::*;
+    use crate::form::FormDebug;
+    use crate::form::FormPartialEq;
+    use std::test::*;
+
+    #[test]
+    fn lines_are_read() -> Result<(), Fail> {
+        check(matches!(read_statement(b"\t # only a comment\r"), Ok(Statement::Nothing)))?;
+        check(matches!(read_statement(b"book 003"), Ok(Statement::Book(3))))?;
+        check(matches!(read_statement(b"plates 40\t5 20\r"), Ok(Statement::Plates(Series { first: 40, step: 5, count: 20 }))))
+    }
+
+    #[test]
+    fn an_entry_is_read() -> Result<(), Fail> {
+        let Ok(Statement::Enter(line)) = read_statement(b"  enter 10 41 0 0 0 300 600 20 0 125 40 # keel") else {
+            return Err(Fail::new("not read"));
+        };
+        check(line.mark == 10 && line.kind == 41 && line.spacing == 300 && line.span == 600)?;
+        check(line.pressure == 20 && line.strength == 125 && line.area == 40)
+    }
+
+    #[test]
+    fn other_lines_are_refused() -> Result<(), Fail> {
+        check_eq(read_statement(b"enter 10 41 0 0 0 300 600 256 0 125 40").err(), Some(Form::Enter))?;
+        check_eq(read_statement(b"enter 10 41 0 0 0 300 600 20 0 125").err(), Some(Form::Enter))?;
+        check_eq(read_statement(b"hull 9000 3000 1500 600 +1").err(), Some(Form::Hull))?;
+        check_eq(read_statement(b"book 300").err(), Some(Form::Book))?;
+        check_eq(read_statement(b"Book 3").err(), Some(Form::Any))
+    }
+}
