@@ -30,12 +30,13 @@ loop-i-again g c =
     let values = c .loop-i .values in
     let n = c .in-Continue-values .field-0 in
     let within : i < length values = omega arith in
-    let front = take-more-set values i n within in
-    ( c .loop-i .inv .0
-    , length-set values i n ∙ c .loop-i .inv .1
-    , ap (λ l. after-front l (numbers-of (drop (i + 1) (c .args .limits)) (words-of (c .in-Continue-word .after .now)))) front
-      ∙ sym (number-more (c .args .limits) (take i values) i (words-of (c .loop-i .rest .now)) (c .in-Continue-word .word .now) (words-of (c .in-Continue-word .after .now)) (omega arith) (c .in-Continue-word .ensures tt) n (c .in-Continue-values .ensures tt))
-      ∙ c .loop-i .inv .2 )
+    let front = take-more-set values i n within in (
+      c .loop-i .inv .0,
+      length-set values i n ∙ c .loop-i .inv .1,
+      ap (λ l. after-front l (numbers-of (drop (i + 1) (c .args .limits)) (words-of (c .in-Continue-word .after .now)))) front
+          ∙ sym (number-more (c .args .limits) (take i values) i (words-of (c .loop-i .rest .now)) (c .in-Continue-word .word .now) (words-of (c .in-Continue-word .after .now)) (omega arith) (c .in-Continue-word .ensures tt) n (c .in-Continue-values .ensures tt))
+          ∙ c .loop-i .inv .2,
+    )
 
 pub returns-in-Some : need.returns-in-Some
 returns-in-Some g c =

@@ -11,9 +11,9 @@ returns-then-not-is-blank c =
     let i = c .loop-i .i in
     let xs = c .args .text .now in
     let e = take-rest xs i in
-    record
-    { words = ap words-of e ∙ c .loop-i .inv
-    ; starts = λ _. ap (λ l. blank (getD l 0 0)) e ∙ ap blank (getD-drop i xs 0 0 ∙ ap (λ k. getD xs k 0) (omega arith)) ∙ sym (c .if-not-is-blank .ensures tt)
+    record {
+      words = ap words-of e ∙ c .loop-i .inv;
+      starts = λ _. ap (λ l. blank (getD l 0 0)) e ∙ ap blank (getD-drop i xs 0 0 ∙ ap (λ k. getD xs k 0) (omega arith)) ∙ sym (c .if-not-is-blank .ensures tt);
     }
 
 pub loop-i-again : need.loop-i-again
@@ -22,7 +22,7 @@ loop-i-again c =
 
 pub returns : need.returns
 returns c =
-    record
-    { words = sym (at-drop-all words-of (c .args .text .now) (c .loop-i .i) (c .loop-i-test .left)) ∙ c .loop-i .inv
-    ; starts = λ some. absurd (omega arith)
+    record {
+      words = sym (at-drop-all words-of (c .args .text .now) (c .loop-i .i) (c .loop-i-test .left)) ∙ c .loop-i .inv;
+      starts = λ some. absurd (omega arith);
     }
