@@ -9,7 +9,7 @@ use lib.Dec.{eqb}
 use lib.ListN.{length, getD, take, drop}
 use Rattle.std.proofs.shelf.Lists.{append-assoc, append-nil, at-drop-more, take-more, length-take-le, length-drop, getD-drop}
 use Rattle.std.proofs.shelf.Tests.{both-ways, cond-true, cond-false}
-use Rattle.words.specs.Words.{uncommented, blank, ended, words-after, words-of}
+use Rattle.words.specs.Words.{uncommented, blank, words-after, words-of}
 
 module _ (xs : List ℕ) (i : ℕ) (inside : i < length xs) where
   -- a byte that begins no comment

@@ -13,6 +13,7 @@
 ghost use mathlib.Core.Path.{_≡_};
 ghost use Rattle.std.specs.Options.{mapped};
 ghost use Rattle.words.specs.Numbers.{numbers-of};
+ghost use Rattle.words.specs.Spelled.{Reads-back};
 ghost use Rattle.words.specs.Statements.{series-of, series-limits, statement-by, statement-of};
 ghost use Rattle.words.specs.Words.{words-of};
 
@@ -31,23 +32,23 @@ use terms::hull::Hull;
 use text::next_word;
 use text::without_comment;
 
-/// The greatest number of a field of one byte.
-const NARROW: u16 = 255;
+/// The greatest number of a `u8` field.
+const U8: u16 = u8::MAX as u16;
 
-/// The greatest number of any other field.
-const WIDE: u16 = 65535;
+/// The greatest number of a `u16` field.
+const U16: u16 = u16::MAX;
 
 fn read_book(text: &[u8]) -> Option<Statement>
     ensures { λ r. ⌜ r ≡ statement-by Form.Book (words-of (now (text .entry))) ⌝ }
 {
-    let [number] = numbers(text, [NARROW])?;
+    let [number] = numbers(text, [U8])?;
     Some(Statement::Book(number as u8))
 }
 
 fn read_series(text: &[u8]) -> Option<Series>
     ensures { λ r. ⌜ r ≡ mapped series-of (numbers-of series-limits (words-of (now (text .entry)))) ⌝ }
 {
-    let [first, step, count] = numbers(text, [WIDE, WIDE, WIDE])?;
+    let [first, step, count] = numbers(text, [U16, U16, U16])?;
     Some(Series { first, step, count })
 }
 
@@ -66,7 +67,7 @@ fn read_stiffeners(text: &[u8]) -> Option<Statement>
 fn read_hull(text: &[u8]) -> Option<Statement>
     ensures { λ r. ⌜ r ≡ statement-by Form.Hull (words-of (now (text .entry))) ⌝ }
 {
-    let [length, breadth, depth, draught, water] = numbers(text, [WIDE, WIDE, WIDE, WIDE, NARROW])?;
+    let [length, breadth, depth, draught, water] = numbers(text, [U16, U16, U16, U16, U8])?;
     Some(Statement::Hull(Hull {
         length,
         breadth,
@@ -79,33 +80,9 @@ fn read_hull(text: &[u8]) -> Option<Statement>
 fn read_entry(text: &[u8]) -> Option<Statement>
     ensures { λ r. ⌜ r ≡ statement-by Form.Enter (words-of (now (text .entry))) ⌝ }
 {
-    let [
-        mark,
-        kind,
-        place,
-        near,
-        far,
-        spacing,
-        span,
-        pressure,
-        height,
-        strength,
-        area,
-    ] = numbers(
+    let [mark, kind, place, near, far, s, l, p, z, strength, area] = numbers(
         text,
-        [
-            WIDE,
-            NARROW,
-            NARROW,
-            WIDE,
-            WIDE,
-            WIDE,
-            WIDE,
-            NARROW,
-            WIDE,
-            WIDE,
-            WIDE,
-        ],
+        [U16, U8, U8, U16, U16, U16, U16, U8, U16, U16, U16],
     )?;
     Some(Statement::Enter(Entry {
         mark,
@@ -113,10 +90,10 @@ fn read_entry(text: &[u8]) -> Option<Statement>
         place: place as u8,
         near,
         far,
-        spacing,
-        span,
-        pressure: pressure as u8,
-        height,
+        spacing: s,
+        span: l,
+        pressure: p as u8,
+        height: z,
         strength,
         area,
     }))
@@ -139,4 +116,66 @@ pub fn read_statement(line: &[u8]) -> Result<Statement, Form>
         Form::Enter => read_entry(rest),
     };
     statement.ok_or(form)
+}
+
+/// A statement that is spelled in plain words, with each number in decimal after one space, is read as that statement.
+/// The contract is all: there is nothing to run.
+pub fn reads_back() -> bool
+    ensures { λ _. ⌜ Reads-back ⌝ }
+{
+    true
+}
+
+#[cfg(test)]
+mod tests {
+    use super::*;
+    use crate::form::FormDebug;
+    use crate::form::FormPartialEq;
+    use std::test::*;
+
+    #[test]
+    fn lines_are_read() -> Result<(), Fail> {
+        check(matches!(
+            read_statement(b"\t # only a comment\r"),
+            Ok(Statement::Nothing)
+        ))?;
+        check(matches!(read_statement(b"book 003"), Ok(Statement::Book(3))))?;
+        check(matches!(
+            read_statement(b"plates 40\t5 20\r"),
+            Ok(Statement::Plates(Series {
+                first: 40,
+                step: 5,
+                count: 20
+            }))
+        ))
+    }
+
+    #[test]
+    fn an_entry_is_read() -> Result<(), Fail> {
+        let Ok(Statement::Enter(line)) = read_statement(
+            b"  enter 10 41 0 0 0 300 600 20 0 125 40 # keel",
+        ) else {
+            return Err(Fail::new("not read"));
+        };
+        check(line.mark == 10 && line.kind == 41 && line.spacing == 300 && line.span == 600)?;
+        check(line.pressure == 20 && line.strength == 125 && line.area == 40)
+    }
+
+    #[test]
+    fn other_lines_are_refused() -> Result<(), Fail> {
+        check_eq(
+            read_statement(b"enter 10 41 0 0 0 300 600 256 0 125 40").err(),
+            Some(Form::Enter),
+        )?;
+        check_eq(
+            read_statement(b"enter 10 41 0 0 0 300 600 20 0 125").err(),
+            Some(Form::Enter),
+        )?;
+        check_eq(
+            read_statement(b"hull 9000 3000 1500 600 +1").err(),
+            Some(Form::Hull),
+        )?;
+        check_eq(read_statement(b"book 300").err(), Some(Form::Book))?;
+        check_eq(read_statement(b"Book 3").err(), Some(Form::Any))
+    }
 }

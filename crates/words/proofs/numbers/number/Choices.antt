@@ -1,5 +1,5 @@
 use mathlib.Core.Path.{_≡_}
-use Prim.Native.Nat.{_≤_, _<_, _^_}
+use Prim.Native.Nat.{_≤_}
 use lib.ListN.{drop}
 use Rattle.words.proofs.Values.{number-after}
 use Rattle.words.proofs.numbers.number.Given as given

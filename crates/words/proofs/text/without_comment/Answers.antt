@@ -1,6 +1,5 @@
 use mathlib.Core.Path.{sym, ap, _∙_}
 use native.Mathlib.Omega.{arith}
-use borrow.Author.Needs.{needs}
 use lib.ListN.{take}
 use Rattle.std.proofs.shelf.Lists.{append-nil, take-all, drop-all}
 use Rattle.std.proofs.shelf.Tests.{eq-eqb, ne-eqb}
