@@ -86,6 +86,7 @@ Sized book plates stiffeners hull line reply.Noted = ⊥
 Sized book plates stiffeners hull line (reply.Needs n) = Needs book plates stiffeners hull line (Ok n)
 Sized book plates stiffeners hull line (reply.Refused e) = Needs book plates stiffeners hull line (Err e)
 Sized book plates stiffeners hull line (reply.Missing f) = ⊥
+Sized book plates stiffeners hull line (reply.Expected f) = ⊥
 
 abbrev pub stock : Series → ℕ → Bool
 stock p = built (p .first) (p .step) (p .count)
@@ -106,3 +107,8 @@ Replied s (statement.Plates p) r = r ≡ noted-stock p
 Replied s (statement.Stiffeners p) r = r ≡ noted-stock p
 Replied s (statement.Hull h) r = r ≡ noted-hull (first-no (hull-questions h))
 Replied s (statement.Enter e) r = Member (s .book) (s .plates) (s .stiffeners) (s .hull) e r
+
+-- a line, by what it says or what was expected of it: what is answered, and what has been said after it
+abbrev pub Heard : Result Statement Form → Said → Reply → Said → Type 0
+Heard (Ok s) before r after = (after ≡ taken before s) × Replied before s r
+Heard (Err f) before r after = (after ≡ before) × (r ≡ reply.Expected f)

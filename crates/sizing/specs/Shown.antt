@@ -1,4 +1,4 @@
--- What is printed of a need.
+-- What is printed of a need and of a reply.
 use mathlib.Core.Bool.{cond}
 use mathlib.Core.List.{List, _++_}
 use Prim.Native.Nat.{ℕ}
@@ -8,7 +8,11 @@ use Rattle.std.specs.Written.{decimal}
 use Rattle.std.specs.declared.option.Option.{Option}
 use Rattle.std.specs.declared.option.Option.the-variants.{Some, None}
 use Rattle.terms.specs.Decimals.{two-decimals}
+use Rattle.terms.specs.Grounds.{refusalText}
+use Rattle.words.specs.Forms.{expected}
 use Rattle.sizing.specs.declared.need.Need.{Need}
+use Rattle.sizing.specs.declared.reply.Reply.{Reply}
+use Rattle.sizing.specs.declared.reply.Reply.the-variants.{Noted, Needs, Refused, Missing, Expected}
 
 -- a size that ended is only known to be above the largest
 abbrev pub sizeText : ℕ → List ℕ
@@ -20,3 +24,10 @@ orderText None = codes " none large enough"
 
 abbrev pub needText : Need → List ℕ
 needText n = decimal (n .mark) ++ (codes " own " ++ (sizeText (n .own) ++ orderText (n .order)))
+
+abbrev pub replyText : Reply → List ℕ
+replyText Noted = codes "noted"
+replyText (Needs n) = needText n
+replyText (Refused e) = refusalText e
+replyText (Missing f) = codes "expected before it: " ++ expected f
+replyText (Expected f) = codes "expected " ++ expected f

@@ -1,7 +1,11 @@
--- The number of each ground of refusal.
+-- The number of each ground of refusal, and how a refusal prints.
+use mathlib.Core.List.{List, _++_}
 use Prim.Native.Nat.{ℕ}
+use lib.Chars.{codes}
+use Rattle.std.specs.Written.{decimal}
 use Rattle.terms.specs.declared.ground.Ground.{Ground}
 use Rattle.terms.specs.declared.ground.Ground.the-variants.{LengthOutOfRange, BreadthOutOfRange, DepthOutOfRange, DraughtOutOfRange, WaterUnknown, MarkZero, MarkTaken, MarkUnknown, PlaceUnknown, NeighbourIsItself, ValueOverLimit, SheetFull, SizeOverLimit, HullMissing, NeighbourMissing, LineUnfit, NoLawfulSchedule, NotSettled, TooFewRows, TooFewBytes, CommandUnknown, HullOutOfOrder, OperandsCutShort, BytesAfterEnd, EndMissing, BuildUpOutOfRange, RowSizeOutOfRange, RowSizeTaken, RowsFull, BookUnknown, InputTooLong, InputTooShort}
+use Rattle.terms.specs.declared.refusal.Refusal.{Refusal}
 
 abbrev pub numberOf : Ground → ℕ
 numberOf LengthOutOfRange = 11
@@ -36,3 +40,6 @@ numberOf RowsFull = 64
 numberOf BookUnknown = 65
 numberOf InputTooLong = 66
 numberOf InputTooShort = 67
+
+abbrev pub refusalText : Refusal → List ℕ
+refusalText r = codes "refused " ++ (decimal (numberOf (r .ground)) ++ (codes " at " ++ decimal (r .at)))

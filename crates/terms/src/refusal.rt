@@ -1,9 +1,6 @@
 //! A refusal: a ground, and the place where it arose.
-ghost use mathlib.Core.List.{_++_};
-ghost use lib.Chars.{codes};
 ghost use Rattle.std.specs.declared.option.Option.the-variants.{Some};
-ghost use Rattle.std.specs.Written.{decimal};
-ghost use Rattle.terms.specs.Grounds.{numberOf};
+ghost use Rattle.terms.specs.Grounds.{refusalText};
 use crate::ground::Ground;
 use crate::ground::GroundDebug;
 use crate::ground::GroundEq;
@@ -18,7 +15,7 @@ pub struct Refusal {
 }
 
 pub impl fmt::Display for Refusal as RefusalDisplay {
-    ghost shown = { λ r. Some (codes "refused " ++ (decimal (numberOf (r .ground)) ++ (codes " at " ++ decimal (r .at)))) };
+    ghost shown = { λ r. Some (refusalText r) };
 
     fn fmt<W: fmt::Write>(&self, f: &mut fmt::Formatter<W>) -> fmt::Result {
         let number = self.ground.number();

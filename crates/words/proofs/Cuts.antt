@@ -9,18 +9,18 @@ use lib.Dec.{eqb}
 use lib.ListN.{length, getD, take, drop}
 use Rattle.std.proofs.shelf.Lists.{append-assoc, append-nil, at-drop-more, take-more, length-take-le, length-drop, getD-drop}
 use Rattle.std.proofs.shelf.Tests.{both-ways, cond-true, cond-false}
-use Rattle.words.specs.Words.{uncommented, blank, words-after, words-of}
+use Rattle.words.specs.Words.{up-to, blank, words-after, words-of}
 
 module _ (xs : List ℕ) (i : ℕ) (inside : i < length xs) where
-  -- a byte that begins no comment
-  pub plain-more : eqb (getD xs i 0) 35 ≡ false → take i xs ++ uncommented (drop i xs) ≡ take (i + 1) xs ++ uncommented (drop (i + 1) xs)
-  plain-more other =
-      ap (λ l. take i xs ++ l) (at-drop-more uncommented xs i 0 inside ∙ cond-false _ _ _ other) ∙ sym (ap (λ l. l ++ uncommented (drop (i + 1) xs)) (take-more xs i 0 inside) ∙ append-assoc (take i xs) _ _)
+  -- a byte at which a text does not stop
+  pub plain-more : (stop : ℕ) → eqb (getD xs i 0) stop ≡ false → take i xs ++ up-to stop (drop i xs) ≡ take (i + 1) xs ++ up-to stop (drop (i + 1) xs)
+  plain-more stop other =
+      ap (λ l. take i xs ++ l) (at-drop-more (up-to stop) xs i 0 inside ∙ cond-false _ _ _ other) ∙ sym (ap (λ l. l ++ up-to stop (drop (i + 1) xs)) (take-more xs i 0 inside) ∙ append-assoc (take i xs) _ _)
 
-  -- a byte that begins a comment
-  pub plain-ends : eqb (getD xs i 0) 35 ≡ true → take i xs ++ uncommented (drop i xs) ≡ take i xs
-  plain-ends mark =
-      ap (λ l. take i xs ++ l) (at-drop-more uncommented xs i 0 inside ∙ cond-true _ _ _ mark) ∙ append-nil (take i xs)
+  -- a byte at which it stops
+  pub plain-ends : (stop : ℕ) → eqb (getD xs i 0) stop ≡ true → take i xs ++ up-to stop (drop i xs) ≡ take i xs
+  plain-ends stop mark =
+      ap (λ l. take i xs ++ l) (at-drop-more (up-to stop) xs i 0 inside ∙ cond-true _ _ _ mark) ∙ append-nil (take i xs)
 
   -- a blank before a word
   pub blank-more : blank (getD xs i 0) ≡ true → words-of (drop i xs) ≡ words-of (drop (i + 1) xs)

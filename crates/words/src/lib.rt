@@ -21,7 +21,7 @@ pub mod form;
 mod numbers;
 pub mod series;
 pub mod statement;
-mod text;
+pub mod text;
 
 use form::Form;
 use numbers::numbers;

@@ -5,18 +5,40 @@ ghost use mathlib.Core.List.{_∷_, []};
 ghost use Prim.Native.Nat.{_≤_, _<_};
 ghost use lib.ListN.{length, getD, take, drop};
 ghost use Rattle.std.specs.Options.{Cases};
-ghost use Rattle.words.specs.Words.{blank, uncommented, words-after, words-of};
+ghost use Rattle.words.specs.Words.{blank, up-to, uncommented, first-line, later-lines, words-after, words-of};
+
+/// The part of a text before the first byte of one value, or all of it.
+fn before(text: &[u8], stop: u8) -> &[u8]
+    ensures { λ r. ⌜ now r ≡ up-to stop (now (text .entry)) ⌝ }
+{
+    for (i, byte) in text.iter().enumerate() {
+        if *byte == stop {
+            return &text[0..i];
+        }
+    }
+    text
+}
 
 /// The part of a line before its comment.
 pub fn without_comment(line: &[u8]) -> &[u8]
     ensures { λ r. ⌜ now r ≡ uncommented (now (line .entry)) ⌝ }
 {
-    for (i, byte) in line.iter().enumerate() {
-        if *byte == b'#' {
-            return &line[0..i];
-        }
+    before(line, b'#')
+}
+
+/// The first line of a text, and the text after it.
+pub fn split_line(text: &[u8]) -> (&[u8], &[u8])
+    ensures first { λ r. ⌜ now (r .0) ≡ first-line (now (text .entry)) ⌝ }
+    ensures later { λ r. ⌜ now (r .1) ≡ later-lines (now (text .entry)) ⌝ }
+    ensures shorter { λ r. ⌜ (0 < length (now (text .entry)) → length (now (r .1)) < length (now (text .entry))) ⌝ }
+{
+    let line = before(text, b'\n');
+    let next = line.len() + 1;
+    if next < text.len() {
+        (line, &text[next..])
+    } else {
+        (line, &[])
     }
-    line
 }
 
 fn is_blank(byte: u8) -> bool

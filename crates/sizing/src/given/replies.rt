@@ -2,9 +2,10 @@
 ghost use mathlib.Core.Path.{_≡_};
 ghost use Rattle.std.specs.Options.{mapped};
 ghost use Rattle.words.specs.declared.statement.Statement.the-variants as statement;
+ghost use Rattle.words.specs.Statements.{statement-of};
 ghost use Rattle.sizing.specs.Books.{rules-of};
 ghost use Rattle.sizing.specs.Needs.{Needs};
-ghost use Rattle.sizing.specs.Replies.{said, nothing-said, taken, Replied, stock, series, laid-in, noted-stock};
+ghost use Rattle.sizing.specs.Replies.{said, nothing-said, taken, Replied, Heard, stock, series, laid-in, noted-stock};
 use super::Given;
 use crate::book::Book;
 use crate::need::Need;
@@ -23,6 +24,7 @@ use terms::hull::Hull;
 use terms::limits::hull_fault;
 use terms::refusal::Refusal;
 use words::form::Form;
+use words::read_statement;
 use words::series::Series;
 use words::statement::Statement;
 
@@ -130,6 +132,16 @@ impl Given {
             Statement::Stiffeners(series) => lay_in(&mut self.stiffeners, series),
             Statement::Hull(hull) => self.set_hull(hull),
             Statement::Enter(line) => self.enter(line),
+        }
+    }
+
+    /// Takes a line of a text sheet, and answers it. A line that is no statement changes nothing.
+    pub fn hear(&mut self, line: &[u8]) -> Reply
+        ensures { λ r. ⌜ Heard (statement-of (now (line .entry))) (said (now (self .entry))) r (said (now (self .exit))) ⌝ }
+    {
+        match read_statement(line) {
+            Ok(statement) => self.take(statement),
+            Err(form) => Reply::Expected(form),
         }
     }
 }
