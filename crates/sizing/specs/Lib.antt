@@ -1,4 +1,3 @@
-pub mod Needs
 pub mod Books
 pub mod Replies
 pub mod Shown

@@ -26,7 +26,7 @@ use Rattle.sizing.specs.declared.given.Given.{Given}
 use Rattle.sizing.specs.declared.reply.Reply.{Reply}
 use Rattle.sizing.specs.declared.reply.Reply.the-variants as reply
 use Rattle.sizing.specs.Books.{numbered, rules-of}
-use Rattle.sizing.specs.Needs.{Needs}
+use Rattle.needs.specs.Needs.{Needs}
 
 -- what the statements so far have said
 pub record Said : Type 0 where

@@ -2,5 +2,4 @@
 
 pub mod book;
 pub mod given;
-pub mod need;
 pub mod reply;

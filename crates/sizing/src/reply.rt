@@ -1,8 +1,8 @@
 //! What is answered to a statement.
 ghost use Rattle.std.specs.declared.option.Option.the-variants.{Some};
 ghost use Rattle.sizing.specs.Shown.{replyText};
-use crate::need::Need;
-use crate::need::NeedDisplay;
+use needs::need::Need;
+use needs::need::NeedDisplay;
 use std::fmt;
 use terms::refusal::Refusal;
 use terms::refusal::RefusalDisplay;

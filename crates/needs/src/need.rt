@@ -2,8 +2,8 @@
 ghost use mathlib.Core.Path.{_≡_};
 ghost use Rattle.std.specs.declared.option.Option.the-variants.{Some};
 ghost use Rattle.terms.specs.Questions.{first-no};
-ghost use Rattle.sizing.specs.Shown.{needText, sizeText};
-ghost use Rattle.sizing.specs.Needs.{Needs, entry-questions};
+ghost use Rattle.needs.specs.Shown.{needText, sizeText};
+ghost use Rattle.needs.specs.Needs.{Needs, entry-questions};
 use std::fmt;
 use terms::book::RuleBook;
 use terms::entry::Entry;

@@ -14,7 +14,7 @@ use Rattle.terms.specs.declared.refusal.Refusal.{Refusal}
 use Rattle.terms.specs.Questions.{Question, _else_, first-no, value-questions}
 use Rattle.terms.specs.Rules.{Rules}
 use Rattle.terms.specs.Stocks.{AtLeast, stock-of}
-use Rattle.sizing.specs.declared.need.Need.{Need}
+use Rattle.needs.specs.declared.need.Need.{Need}
 
 -- what is asked of a member before a book is
 abbrev pub entry-questions : Entry → List Question

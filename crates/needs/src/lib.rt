@@ -1,0 +1,3 @@
+//! What one member needs by itself, from any rule book and two stocks.
+
+pub mod need;
