@@ -1,0 +1,5 @@
+pub mod Laws
+pub mod Moves
+pub mod Orders
+pub mod Held
+pub mod Kept
