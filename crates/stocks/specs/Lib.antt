@@ -1,1 +1,3 @@
 pub mod BuildUps
+pub mod RowLists
+pub mod RowStocks
