@@ -11,4 +11,6 @@ pub fn worked_sizes() -> u8
 #[cfg(test)]
 mod books;
 #[cfg(test)]
+mod counted;
+#[cfg(test)]
 mod sheets;
