@@ -1,4 +1,6 @@
 //! The rule book for aluminium fast craft.
+#![tactic(auto)]
+
 ghost use Rattle.std.specs.Prelude.{◌≡◌, ◌*◌, ◌^◌, max};
 ghost use Rattle.clauses.specs.Panels.{bending, panel_thickness};
 ghost use Rattle.clauses.specs.Rounding.{divided_up};

@@ -1,4 +1,5 @@
 //! Designs: the lines of a sheet, the design basis that they are judged by, and what is lawful for them.
+#![tactic(auto)]
 
 pub mod basis;
 pub mod check;

@@ -1,4 +1,6 @@
 //! The search for the least lawful schedule.
+#![tactic(auto)]
+
 ghost use Rattle.std.specs.Prelude.{◌≡◌, ◌+◌, ◌<◌, ◌≤◌, max, true, length, slice_index, slice_set};
 ghost use Rattle.terms.specs.Stocks.{AtLeast};
 ghost use Rattle.design.specs.Settings.{stock_for};

@@ -1,4 +1,6 @@
 //! The rule book for reinforced-plastic fishing boats.
+#![tactic(auto)]
+
 ghost use Rattle.std.specs.Prelude.{◌≡◌, ◌^◌, ◌<◌};
 ghost use Rattle.plastic.specs.Plastic.{plastic, plastic-law, stiffener, fits, head, GreaterHead, modulus, keelson, own, pull};
 

@@ -1,4 +1,5 @@
 //! Records: the format in which offices exchange sheets. What it looks like is told in docs/RECORDS.md.
+#![tactic(auto)]
 
 mod commands;
 pub mod placed;

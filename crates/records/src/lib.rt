@@ -1,4 +1,5 @@
 //! Records worked out by hand, whole and damaged, read and written.
+#![tactic(auto)]
 
 #[cfg(test)]
 mod damaged;

@@ -1,4 +1,6 @@
 //! An ordered register over memory that is lent to it, for every kind of element that has a key.
+#![tactic(auto)]
+
 ghost use Rattle.std.specs.Prelude.{◌≡◌, ℕ, ◌+◌, ◌-◌, ◌<◌, ◌≤◌, true, ◌&&◌, List, [], ◌∷◌, ◌++◌, length, take, drop, replicate, if◌then◌else◌, nat_le, nat_lt, slice_set};
 ghost use Rattle.std.specs.List.{insert, remove};
 ghost use Rattle.register.specs.Keys.{place_of, first_from, rank, placed};

@@ -1,4 +1,6 @@
 //! Prints what each member of a text sheet needs by itself.
+#![tactic(auto)]
+
 use sizing::given::Given;
 use sizing::reply::Reply;
 use std::io::Read;

@@ -1,4 +1,5 @@
 //! Runs of calls on a sheet, and what holds of every one.
+#![tactic(auto)]
 
 pub mod back;
 pub mod perform;

@@ -1,4 +1,5 @@
 //! A sheet: one hull and its lines, over memory that the caller lends.
+#![tactic(auto)]
 
 pub mod call;
 pub mod sheet;

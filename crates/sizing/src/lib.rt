@@ -1,4 +1,5 @@
 //! What each member of a list needs by itself.
+#![tactic(auto)]
 
 pub mod book;
 pub mod given;

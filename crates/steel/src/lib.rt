@@ -1,4 +1,6 @@
 //! The rule book for steel small craft.
+#![tactic(auto)]
+
 ghost use Rattle.std.specs.Prelude.{◌≡◌};
 ghost use Rattle.steel.specs.Steel.{steel, steel-law, stiffener, proportioned, fits, own, pull};
 

@@ -1,4 +1,5 @@
 //! Stocks of sizes.
+#![tactic(auto)]
 
 pub mod build_up;
 pub mod row;

@@ -1,4 +1,5 @@
 //! The vocabulary of scantling sheets: hulls, entered values, refusals, rule books and stocks.
+#![tactic(auto)]
 
 pub mod book;
 pub mod entry;

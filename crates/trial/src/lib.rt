@@ -1,4 +1,6 @@
 //! A trial: a size that is laid on one line for as long as the trial is held, so that the design can be checked with it.
+#![tactic(auto)]
+
 ghost use Rattle.std.specs.Prelude.{◌≡◌, ℕ};
 ghost use Rattle.register.specs.Keys.{place_of};
 ghost use Rattle.design.specs.Contents.{Contents, with_lines};

@@ -1,4 +1,6 @@
 //! Trials on a sheet: what a check would say with another size on one line. The sheet is as before, on whatever way a trial ends.
+#![tactic(auto)]
+
 ghost use Rattle.std.specs.Prelude.{◌≡◌};
 ghost use Rattle.design.specs.Settings.{set_by};
 ghost use Rattle.sheet.specs.Sheets.{contents};

@@ -10,6 +10,8 @@
 //!     enter MARK KIND PLACE NEIGHBOUR NEIGHBOUR s l P z STRENGTH AREA
 //!
 //! and each number is one or more digits.
+#![tactic(auto)]
+
 ghost use Rattle.std.specs.Prelude.{◌≡◌};
 ghost use Rattle.std.specs.Option.{option_map};
 ghost use Rattle.words.specs.Numbers.{numbers_of};

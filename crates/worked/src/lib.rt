@@ -1,4 +1,6 @@
 //! Sizes that were worked out by hand from the clauses.
+#![tactic(auto)]
+
 ghost use Rattle.worked.specs.Worked.{WorkedSizes};
 
 /// How many sizes were worked out; that the clauses give them is the contract.

@@ -1,4 +1,6 @@
 //! Writing a sheet as a record, and copying it by way of one.
+#![tactic(auto)]
+
 ghost use Rattle.std.specs.Prelude.{◌≡◌, ◌+◌, ◌/◌, ◌%◌, ◌≤◌, [], ◌∷◌, ◌++◌, length, drop, Some, Err, nat_le};
 ghost use Rattle.sheet.specs.declared.call.Call.TheVariants as call;
 ghost use Rattle.sheet.specs.Sheets.{contents};
