@@ -1,5 +1,5 @@
 //! The grounds of refusal, each with its number.
-ghost use Rattle.std.specs.Prelude.{◌≡◌, Decides};
+ghost use Rattle.std.specs.Prelude.{◌≡◌, ◌==◌, Decides};
 ghost use Rattle.terms.specs.Grounds.{number_of};
 ghost use Rattle.std.specs.Cmp.Rules.{comparing};
 ghost use Rattle.std.proofs.Common.{rules};
@@ -85,11 +85,14 @@ impl Ground {
 
 // No two grounds have one number.
 impl PartialEq for Ground {
-    ghost equals = { λ a b r. Decides r (a ≡ b) };
+    ghost eq = { λ a b. number_of a == number_of b };
 
     ghost laws = { Keys.partial_equiv_from_equiv (Prim.search (comparing, rules)) };
 
-    fn eq(&self, other: &Ground) -> bool {
+    fn eq(&self, other: &Ground) -> bool
+        ensures value { result ≡ (number_of self.now == number_of other.now) }
+        ensures decides { Decides result (self.now ≡ other.now) }
+    {
         self.number() == other.number()
     }
 }

@@ -4,7 +4,7 @@ use Rattle.least.proofs.least_schedule.Goals as goal
 
 pub climb-requires : goal.climb-requires
 climb-requires g c = record {
-  pairs = pairs_front _ _ _ _ c.touching-pairs-count.result _ (let fits = c.touching-pairs-count.ensures.count in omega arith) (omega arith) c.touching-pairs-count.ensures.pairs;
+  pairs = pairs_front _ _ _ _ c.touching_pairs-count.result _ (let fits = c.touching_pairs-count.ensures.count in omega arith) (omega arith) c.touching_pairs-count.ensures.pairs;
   ready = rw c.start.ensures.same c.if-not-start.ensures.begun;
 }
 

@@ -18,6 +18,6 @@ loop-p-preserved g c =
     let e = c.loop-p.invariant.0 in (
       c.lift.ensures.same ∙ e,
       c.lift.ensures.lent ∙ c.loop-p.invariant.1,
-      rw c.followed-by-went.ensures
+      rw c.followed_by-went.ensures
           (step_then _ _ (Holds (pair c.args.pairs.now c.loop-p.p).line (pair c.args.pairs.now c.loop-p.p).by) _ _ _ _ _ _ (λ s p q. below_more _ _ p q) c.loop-p.invariant.2 (rw e at c.lift.ensures.step)),
     )

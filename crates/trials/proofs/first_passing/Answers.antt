@@ -19,5 +19,5 @@ loop-size-preserved g c =
       search rules,
       search rules,
       search rules,
-      below_more _ _ i.4 (still _ _ _ _ _ _ _ _ _ _ _ i.1 i.2 i.3 (ap g.L.Lines.contents i.0) c.if-branch.false c.in-ok-passes-with.ensures.value),
+      below_more _ _ i.4 (still _ _ _ _ _ _ _ _ _ _ _ i.1 i.2 i.3 (ap g.L.Lines.contents i.0) c.if-branch.false c.in_ok-passes_with.ensures.value),
     )

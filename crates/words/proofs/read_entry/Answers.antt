@@ -4,8 +4,8 @@ use Rattle.words.specs.Words.{words_of}
 use Rattle.words.proofs.Bounds.{within_limit}
 use Rattle.words.proofs.read_entry.Goals as goal
 
-pub overflow-cast-result-2 : goal.overflow-cast-result-2
-overflow-cast-result-2 c = let low = within_limit entry_limits (words_of c.args.text.now) _ c.in-ok-mark.ensures 2 (lit< tt) in omega arith
+pub overflow_cast-result-2 : goal.overflow_cast-result-2
+overflow_cast-result-2 c = let low = within_limit entry_limits (words_of c.args.text.now) _ c.in_ok-mark.ensures 2 (lit< tt) in omega arith
 
-pub overflow-cast-result-3 : goal.overflow-cast-result-3
-overflow-cast-result-3 c = let low = within_limit entry_limits (words_of c.args.text.now) _ c.in-ok-mark.ensures 7 (lit< tt) in omega arith
+pub overflow_cast-result-3 : goal.overflow_cast-result-3
+overflow_cast-result-3 c = let low = within_limit entry_limits (words_of c.args.text.now) _ c.in_ok-mark.ensures 7 (lit< tt) in omega arith

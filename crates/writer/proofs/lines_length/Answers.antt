@@ -8,7 +8,7 @@ use Rattle.writer.proofs.lines_length.Goals as goal
 pub loop-line-preserved : goal.loop-line-preserved
 loop-line-preserved c =
     let m = length_more c.args.lines.now c.loop-line.line-index no_line c.loop-line-test.true in
-    (omega (arith, m, c.line-length-n.ensures.value), omega (arith, c.line-length-n.ensures.small))
+    (omega (arith, m, c.line_length-n.ensures.value), omega (arith, c.line_length-n.ensures.small))
 
 pub returns : goal.returns
 returns c =

@@ -4,5 +4,5 @@ use Rattle.writer.proofs.put_enter.Goals as goal
 
 pub returns : goal.returns
 returns c =
-    put_enter c.args.out.now c.copy-from-slice.new.self c.copy-from-slice-2.new.self c.args.e (omega arith)
-    (c.copy-from-slice.ensures.after ∙ c.first-half-bytes.ensures) (c.copy-from-slice-2.ensures.after ∙ c.second-half-bytes.ensures)
+    put_enter c.args.out.now c.copy_from_slice.new.self c.copy_from_slice-2.new.self c.args.e (omega arith)
+    (c.copy_from_slice.ensures.after ∙ c.first_half_bytes.ensures) (c.copy_from_slice-2.ensures.after ∙ c.second_half_bytes.ensures)

@@ -5,8 +5,8 @@ use Rattle.writer.specs.Writing.{line_bytes, lines_bytes}
 use Rattle.writer.proofs.Puts.{length_more, bytes_more, front_fits, put_rest}
 use Rattle.writer.proofs.put_lines.Goals as goal
 
-pub put-line-n-requires : goal.put-line-n-requires
-put-line-n-requires c =
+pub put_line-n-requires : goal.put_line-n-requires
+put_line-n-requires c =
     let ls = c.args.lines.now in
     let i = c.loop-line.line-index in
     let x = c.loop-line.out in
@@ -20,10 +20,10 @@ loop-line-preserved c =
     let n = c.loop-line.n in
     let o = c.args.out.now in
     let m = length_more ls i no_line c.loop-line-test.true in
-    let k = c.put-line-n.ensures.count in (
+    let k = c.put_line-n.ensures.count in (
       omega (arith, m, k, front_fits ls (i + 1)),
       omega (arith, m, k),
-      put_rest o c.loop-line.out (lines_bytes (take i ls)) (line_bytes (get_or ls i no_line)) c.put-line-n.new.out n c.loop-line.invariant.2 c.loop-line.invariant.1 c.loop-line.invariant.0 c.put-line-n.ensures.bytes
+      put_rest o c.loop-line.out (lines_bytes (take i ls)) (line_bytes (get_or ls i no_line)) c.put_line-n.new.out n c.loop-line.invariant.2 c.loop-line.invariant.1 c.loop-line.invariant.0 c.put_line-n.ensures.bytes
           ∙ ap (λ b. b ++ drop (n + length (line_bytes (get_or ls i no_line))) o) (sym (bytes_more ls i no_line c.loop-line-test.true))
           ∙ ap (λ w. lines_bytes (take (i + 1) ls) ++ drop (n + w) o) (sym k),
     )

@@ -3,4 +3,4 @@ use Rattle.writer.proofs.Written.{record_long}
 use Rattle.writer.proofs.record_length.Goals as goal
 
 pub returns : goal.returns
-returns c = omega (arith, record_long c.args.hull c.args.lines.now, c.lines-length.ensures.value)
+returns c = omega (arith, record_long c.args.hull c.args.lines.now, c.lines_length.ensures.value)

@@ -8,8 +8,8 @@ borne t r laid pull is e touches = ltb-false laid pull (ap (λ b. b && ltb laid 
 
 pub loop-k-preserved : goal.loop-k-preserved
 loop-k-preserved g c =
-    let said = c.is-below-pull.ensures in (
+    let said = c.is_below_pull.ensures in (
       said.same ∙ c.loop-k.invariant.0,
       said.lent ∙ c.loop-k.invariant.1,
-      below_more _ _ c.loop-k.invariant.2 (borne _ _ _ _ (rw c.loop-k.invariant.0 at said.value) c.if-is-below-pull.false),
+      below_more _ _ c.loop-k.invariant.2 (borne _ _ _ _ (rw c.loop-k.invariant.0 at said.value) c.if-is_below_pull.false),
     )

@@ -9,6 +9,6 @@ returns g c =
     let held = g.S.Lines.contents c.args.lines.now in
     record {
       name = refl;
-      tried = c.put-at-old.ensures.contents ∙ ap (λ p. with_lines held (lay_at held.lines p c.args.size)) c.place-of-trial-place.ensures ∙ lines-tried held c.args.mark c.args.size;
-      back = c.put-at-old.ensures.back;
+      tried = c.put_at-old.ensures.contents ∙ ap (λ p. with_lines held (lay_at held.lines p c.args.size)) c.place_of_trial-place.ensures ∙ lines-tried held c.args.mark c.args.size;
+      back = c.put_at-old.ensures.back;
     }

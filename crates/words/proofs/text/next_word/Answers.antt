@@ -5,14 +5,14 @@ use Rattle.words.proofs.text.next_word.Goals as goal
 
 pub returns-in-0 : goal.returns-in-0
 returns-in-0 c =
-    sym c.skip-blanks-text.ensures.words ∙ no_word c.skip-blanks-text.result.now c.word-length.result c.in-0.is c.skip-blanks-text.ensures.starts c.word-length.ensures.stops
+    sym c.skip_blanks-text.ensures.words ∙ no_word c.skip_blanks-text.result.now c.word_length.result c.in-0.is c.skip_blanks-text.ensures.starts c.word_length.ensures.stops
 
-pub returns-in-default : goal.returns-in-default
-returns-in-default c =
-    let text = c.skip-blanks-text.result.now in
-    let n = c.word-length.result in
+pub returns-in_default : goal.returns-in_default
+returns-in_default c =
+    let text = c.skip_blanks-text.result.now in
+    let n = c.word_length.result in
     let some : 0 < n = search rules in
-    let told = c.word-length.ensures in
+    let told = c.word_length.ensures in
     let e = take_rest text n in
     let z : n - 0 ≡ n = omega arith in
-    sym c.skip-blanks-text.ensures.words ∙ first_word text n some told.within told.words told.stops ∙ simp (e, z)
+    sym c.skip_blanks-text.ensures.words ∙ first_word text n some told.within told.words told.stops ∙ simp (e, z)

@@ -45,5 +45,5 @@ returns-in-Body-eq5 c =
 pub returns-in-Body-eq255 : goal.returns-in-Body-eq255
 returns-in-Body-eq255 c = record { same = refl; told = told_end c.args.self.now.bytes.now c.rest-rest.result.now c.args.self.now.at (get_or c.rest-rest.result.now 0 0) c.args.self.now.stage c.rest-rest.ensures.value (search rules) refl c.in-Body-eq255.is-0 c.in-Body-eq255.is-1 c.if-rest-eq1.true }
 
-pub returns-in-default-1-to-5 : goal.returns-in-default-1-to-5
-returns-in-default-1-to-5 c = record { same = refl; told = told_order c.args.self.now.bytes.now c.rest-rest.result.now c.args.self.now.at (get_or c.rest-rest.result.now 0 0) c.args.self.now.stage c.rest-rest.ensures.value (search rules) refl c.refuse-in-default-1-to-5.result (search rules) c.refuse-in-default-1-to-5.ensures }
+pub returns-in_default-1-to-5 : goal.returns-in_default-1-to-5
+returns-in_default-1-to-5 c = record { same = refl; told = told_order c.args.self.now.bytes.now c.rest-rest.result.now c.args.self.now.at (get_or c.rest-rest.result.now 0 0) c.args.self.now.stage c.rest-rest.ensures.value (search rules) refl c.refuse-in_default-1-to-5.result (search rules) c.refuse-in_default-1-to-5.ensures }

@@ -9,10 +9,10 @@ use Rattle.sheet.proofs.sheet.Sheet.new.Goals.{After-new-lines}
 left : (c : goal.After-new-lines) → Holds mark_of no_line c.new-lines.result.count c.new-lines.result.slots.now [] (min (length c.args.memory.now) 96)
 left c =
     emptied mark_of no_line c.new-lines.result.count (min (length c.args.memory.now) 96) c.new-lines.result.slots.now c.new-lines.ensures.count
-    (c.new-lines.ensures.slots ∙ ap (λ k. replicate k no_line) (c.split-at-mut-front.ensures.front-len ∙ c.min-room.ensures))
+    (c.new-lines.ensures.slots ∙ ap (λ k. replicate k no_line) (c.split_at_mut-front.ensures.front-len ∙ c.min-room.ensures))
 
-pub invariant-of-result : goal.invariant-of-result
-invariant-of-result c = let a = left c in (a.fits, (omega (arith, a.whole), (a.climbing, (a.rest, (refl, (ap (each line_kept) a.held, tt))))))
+pub invariant_of-result : goal.invariant_of-result
+invariant_of-result c = let a = left c in (a.fits, (omega (arith, a.whole), (a.climbing, (a.rest, (refl, (ap (each line_kept) a.held, tt))))))
 
 pub returns : goal.returns
 returns c = held-contents _ _ _ _ _ _ (left (goal.at.returns c).After-new-lines)

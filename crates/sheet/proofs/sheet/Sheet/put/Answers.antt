@@ -18,8 +18,8 @@ left c =
     (c.requires.mark ∙ ap mark_of (get_or_default ls c.args.place no_line c.args.line c.requires.place))
     c.replace.ensures.answer c.replace.ensures.slots c.replace.ensures.count
 
-pub invariant-of-self : goal.invariant-of-self
-invariant-of-self c = let a = left c in (a.fits, (omega (arith, a.whole, c.args.self.now.small), (a.climbing, (a.rest, (c.args.self.now.proper, (ap (each line_kept) a.held ∙ each_set line_kept _ c.args.place c.args.line c.requires.kept c.args.self.now.limits, tt))))))
+pub invariant_of-self : goal.invariant_of-self
+invariant_of-self c = let a = left c in (a.fits, (omega (arith, a.whole, c.args.self.now.small), (a.climbing, (a.rest, (c.args.self.now.proper, (ap (each line_kept) a.held ∙ each_set line_kept _ c.args.place c.args.line c.requires.kept c.args.self.now.limits, tt))))))
 
 pub returns : goal.returns
 returns c = held-contents _ _ _ _ _ _ (left (goal.at.returns c).After-replace)

@@ -17,8 +17,8 @@ left c =
     c.args.place c.remove.result (omega (arith, length-take-le s.lines.count s.lines.slots.now s.fits, c.requires))
     c.remove.ensures.answer c.remove.ensures.slots c.remove.ensures.count
 
-pub invariant-of-self : goal.invariant-of-self
-invariant-of-self c = let a = left c in (a.fits, (omega (arith, a.whole, c.args.self.now.small), (a.climbing, (a.rest, (c.args.self.now.proper, (ap (each line_kept) a.held ∙ each_removed line_kept _ c.args.place c.args.self.now.limits, tt))))))
+pub invariant_of-self : goal.invariant_of-self
+invariant_of-self c = let a = left c in (a.fits, (omega (arith, a.whole, c.args.self.now.small), (a.climbing, (a.rest, (c.args.self.now.proper, (ap (each line_kept) a.held ∙ each_removed line_kept _ c.args.place c.args.self.now.limits, tt))))))
 
 pub returns : goal.returns
 returns c = held-contents _ _ _ _ _ _ (left (goal.at.returns c).After-remove)

@@ -20,12 +20,12 @@ module _ (s z : Setting) (c : Contents) (o : Option Hull) (ls ls' : List Line) (
       let nothing : NoneLawful (job s h c.lines) = subst (λ (x : Setting × List Line). NoneLawful (job x.0 h x.1)) (λ i. (same i, again i)) (none (subst (λ x. length x ≤ 96) (sym again) small)) in
       subst (λ (a : Result Hull Refusal). SettlesOn s c a (Err none_lawful_at) c) (sym ready) (refl, nothing, refl)
 
-pub returns-in-default : goal.returns-in-default
-returns-in-default g c =
+pub returns-in_default : goal.returns-in_default
+returns-in_default g c =
     let t = c.args.self.now in
     record {
-      settles = refused _ _ (contents t) c.hull.result c.lines.result.now c.lines-2.result.now c.ready_hull.result c.in-ok-hull.hull c.in-ok-hull.was c.ready_hull.ensures.value
-          c.hull.ensures c.lines.ensures c.lines-2.ensures c.ready_hull.ensures.same (let f = t.fits in let m = t.small in omega (arith, length-take-le t.lines.count t.lines.slots.now t.fits)) c.in-default.ensures.least;
-      same = c.least-schedule.ensures.same ∙ c.ready_hull.ensures.same;
-      lent = c.least-schedule.ensures.lent ∙ c.ready_hull.ensures.lent;
+      settles = refused _ _ (contents t) c.hull.result c.lines.result.now c.lines-2.result.now c.ready_hull.result c.in_ok-hull.hull c.in_ok-hull.was c.ready_hull.ensures.value
+          c.hull.ensures c.lines.ensures c.lines-2.ensures c.ready_hull.ensures.same (let f = t.fits in let m = t.small in omega (arith, length-take-le t.lines.count t.lines.slots.now t.fits)) c.in_default.ensures.least;
+      same = c.least_schedule.ensures.same ∙ c.ready_hull.ensures.same;
+      lent = c.least_schedule.ensures.lent ∙ c.ready_hull.ensures.lent;
     }

@@ -6,7 +6,7 @@ use Rattle.stocks.proofs.build_up.BuildUpStock.holds.Goals as goal
 pub returns-then-size-self : goal.returns-then-size-self
 returns-then-size-self c =
     let s = c.args.self.now in
-    record { value = c.has-rise.ensures ∙ from_first s.first s.step s.count c.args.size s.rises c.if-size-self.true; same = refl }
+    record { value = c.has_rise.ensures ∙ from_first s.first s.step s.count c.args.size s.rises c.if-size-self.true; same = refl }
 
 pub returns-else-size-self : goal.returns-else-size-self
 returns-else-size-self c =

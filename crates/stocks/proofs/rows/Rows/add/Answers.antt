@@ -9,7 +9,7 @@ use Rattle.stocks.proofs.rows.Rows.add.Goals as goal
 use Rattle.stocks.proofs.rows.Rows.add.Goals.{After-insert}
 
 accepted : (c : goal.After-insert) → Welcome c.args.row (rows_of c.args.self.now) (room_of c.args.self.now)
-accepted c = welcome c.args.row (rows_of c.args.self.now) (room_of c.args.self.now) (sym c.in-default.ensures)
+accepted c = welcome c.args.row (rows_of c.args.self.now) (room_of c.args.self.now) (sym c.in_default.ensures)
 
 left : (c : goal.After-insert) → Holds size_of no_row c.insert.new.self.count c.insert.new.self.slots.now
     (placed size_of c.args.row (rows_of c.args.self.now)) (room_of c.args.self.now)
@@ -20,8 +20,8 @@ left c =
     c.args.row c.insert.result (omega (arith, w.free, s.fits, length-take-le s.rows.count s.rows.slots.now s.fits)) w.above w.new
     c.insert.ensures.answer c.insert.ensures.slots c.insert.ensures.count
 
-pub invariant-of-self : goal.invariant-of-self
-invariant-of-self c =
+pub invariant_of-self : goal.invariant_of-self
+invariant_of-self c =
     let s = c.args.self.now in
     let a = left c in
     (a.fits, (a.climbing, (a.rest, (ap all_small a.held ∙ small-placed c.args.row (rows_of s) (accepted c).small s.within, tt))))

@@ -4,4 +4,4 @@ use Rattle.stocks.proofs.Listing.{place_tells}
 use Rattle.stocks.proofs.rows.Rows.has_size.Goals as goal
 
 pub returns : goal.returns
-returns c = c.is-some.ensures ∙ ap is_some c.place-of.ensures ∙ place_tells c.args.size (rows_of c.args.self.now)
+returns c = c.is_some.ensures ∙ ap is_some c.place_of.ensures ∙ place_tells c.args.size (rows_of c.args.self.now)
