@@ -8,7 +8,7 @@ returns-in_err-steps c =
     let s = c.args.self.now in
     record { value = rw c.from_residual.ensures (no_size s.first s.step s.count c.args.floor s.rises c.in_err-steps.ensures); same = refl }
 
-within : (c : goal.In-ok-steps) → c.args.self.now.first + c.in_ok-steps.steps * c.args.self.now.step ≤ 60000
+within : (c : goal.In_ok-steps) → c.args.self.now.first + c.in_ok-steps.steps * c.args.self.now.step ≤ 60000
 within c =
     let s = c.args.self.now in
     size-within s.first s.step s.count c.in_ok-steps.steps s.within c.in_ok-steps.ensures.0

@@ -24,7 +24,7 @@ pub invariant_of-self : goal.invariant_of-self
 invariant_of-self c =
     let s = c.args.self.now in
     let a = left c in
-    (a.fits, (a.climbing, (a.rest, (ap all_small a.held ∙ small-placed c.args.row (rows_of s) (accepted c).small s.within, tt))))
+    record { fits = a.fits; climbing = a.climbing; rest = a.rest; within = ap all_small a.held ∙ small-placed c.args.row (rows_of s) (accepted c).small s.within }
 
 pub returns : goal.returns
 returns c =
