@@ -3,6 +3,7 @@ use Rattle.std.specs.Prelude.{◌≡◌, ℕ, ◌+◌, ◌⊎◌, List, [], ◌�
 use Rattle.terms.specs.declared.ground.Ground.{Ground}
 use Rattle.terms.specs.declared.ground.Ground.TheVariants.{CommandUnknown, HullOutOfOrder, OperandsCutShort, BytesAfterEnd, EndMissing}
 use Rattle.terms.specs.declared.refusal.Refusal.{Refusal}
+use Rattle.terms.specs.Questions.{refusal_of}
 use Rattle.sheet.specs.declared.call.Call.{Call}
 use Rattle.record.specs.declared.placed.Placed.{Placed}
 use Rattle.record.specs.declared.placed.Stage.{Stage}
@@ -31,7 +32,7 @@ abbrev pub no_more : Refusal → Type 0
 no_more e = ⊥
 
 abbrev pub at_place : Ground → ℕ → Refusal
-at_place g at = record { ground = g; at = at }
+at_place g at = refusal_of g at
 
 -- how the rest of a record, from a place on, is refused at a stage
 abbrev pub Fault : Stage → ℕ → List ℕ → Refusal → Type 0

@@ -3,7 +3,7 @@ use Rattle.std.specs.Prelude.{◌≡◌, ℕ, Bool, cond, not, List, [], ◌∷�
 use Rattle.register.specs.Keys.{placed, without, changed}
 use Rattle.terms.specs.declared.ground.Ground.TheVariants.{MarkZero, MarkTaken, MarkUnknown, SheetFull, SizeOverLimit, NotSettled}
 use Rattle.terms.specs.declared.refusal.Refusal.{Refusal}
-use Rattle.terms.specs.Questions.{Question, ◌else◌, first_no, refused_at, hull_questions, value_questions}
+use Rattle.terms.specs.Questions.{Question, ◌else◌, first_no, refused_at, hull_questions, value_questions, refusal_of}
 use Rattle.sheet.specs.declared.call.Call.{Call}
 use Rattle.sheet.specs.declared.call.Call.TheVariants as call
 use Rattle.design.specs.declared.line.Line.{Line}
@@ -54,9 +54,9 @@ pub record Does (c : Contents) (x : Call) (r : Answer) (after : Contents) : Type
 
 -- the scheduled size of a line, if there is one
 abbrev pub size_at : ℕ → Option Line → Result ℕ Refusal
-size_at m None = Err (record { ground = MarkUnknown; at = m })
+size_at m None = Err (refusal_of MarkUnknown m)
 size_at m (Some l) = Ok l.scheduled
 
 -- the scheduled size of a mark, on a settled sheet
 abbrev pub scheduled_size : Contents → ℕ → Result ℕ Refusal
-scheduled_size c m = cond c.settled (size_at m (line_of m c.lines)) (Err (record { ground = NotSettled; at = m }))
+scheduled_size c m = cond c.settled (size_at m (line_of m c.lines)) (Err (refusal_of NotSettled m))

@@ -1,6 +1,7 @@
 -- What settle answers, and what the sheet holds after it.
 use Rattle.std.specs.Prelude.{◌≡◌, Ok, Err, Result}
 use Rattle.terms.specs.declared.ground.Ground.TheVariants.{NoLawfulSchedule}
+use Rattle.terms.specs.Questions.{refusal_of}
 use Rattle.terms.specs.declared.hull.Hull.{Hull}
 use Rattle.terms.specs.declared.refusal.Refusal.{Refusal}
 use Rattle.design.specs.Contents.{Contents, settled_at}
@@ -11,7 +12,7 @@ use Rattle.sheet.specs.Calls.{Answer}
 
 -- refused for want of a lawful schedule
 abbrev pub none_lawful_at : Refusal
-none_lawful_at = record { ground = NoLawfulSchedule; at = 0 }
+none_lawful_at = refusal_of NoLawfulSchedule 0
 
 -- by the answer to the questions that are put before: refused by them; or the least lawful schedule
 -- is written; or there is none, and nothing changes

@@ -6,7 +6,7 @@ use Rattle.register.specs.Keys.{climbs}
 use Rattle.terms.specs.declared.ground.Ground.{Ground}
 use Rattle.terms.specs.declared.ground.Ground.TheVariants.{RowSizeOutOfRange, RowSizeTaken, RowsFull}
 use Rattle.terms.specs.declared.refusal.Refusal.{Refusal}
-use Rattle.terms.specs.Questions.{Question, ◌else◌, first_no, between}
+use Rattle.terms.specs.Questions.{Question, ◌else◌, first_no, between, refusal_of}
 use Rattle.terms.specs.Stocks.{Ranged}
 use Rattle.stocks.specs.declared.row.Row.{Row}
 
@@ -38,7 +38,7 @@ row_questions row rows room =
 -- done, or refused on a ground, at no place
 abbrev pub answer_on : Option Ground → Result (Unit {0}) Refusal
 answer_on None = Ok tt
-answer_on (Some g) = Err (record { ground = g; at = 0 })
+answer_on (Some g) = Err (refusal_of g 0)
 
 abbrev pub add_answer : Row → List Row → ℕ → Result (Unit {0}) Refusal
 add_answer row rows room = answer_on (first_no (row_questions row rows room))

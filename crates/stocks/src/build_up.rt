@@ -1,6 +1,7 @@
 //! A stock that is built up by equal steps.
 ghost use Rattle.std.specs.Prelude.{◌≡◌, ◌<◌, ◌≤◌, is_ok, MatchResult};
 ghost use Rattle.terms.specs.declared.ground.Ground.TheVariants.{BuildUpOutOfRange};
+ghost use Rattle.terms.specs.Questions.{refusal_of};
 ghost use Rattle.stocks.specs.BuildUps.{last_size, buildable, built, built_ranged, whole_steps, StepsTo};
 
 use terms::ground::Ground;
@@ -33,7 +34,7 @@ impl BuildUp {
     /// Refused where a number is 0, or the last size is above 60,000.
     pub fn new(first: u16, step: u16, count: u16) -> Result<BuildUp, Refusal>
         ensures made { is_ok result ≡ buildable first step count }
-        ensures value { MatchResult result (λ b. (b.first ≡ first) × (b.step ≡ step) × (b.count ≡ count)) (λ e. e ≡ record { ground = BuildUpOutOfRange; at = 0 }) }
+        ensures value { MatchResult result (λ b. (b.first ≡ first) × (b.step ≡ step) × (b.count ≡ count)) (λ e. e ≡ refusal_of BuildUpOutOfRange 0) }
     {
         if is_buildable(first, step, count) {
             Ok(BuildUp { first, step, count })

@@ -24,10 +24,14 @@ first_no (q ∷ qs) = cond q.yes (first_no qs) (Some q.ground)
 abbrev pub all_yes : List Question → Bool
 all_yes qs = not (is_some (first_no qs))
 
+-- the refusal on a ground, at a place
+abbrev pub refusal_of : Ground → ℕ → Refusal
+refusal_of g at = record { ground = g; at = at }
+
 -- accepted, or refused on a ground, at a place
 abbrev pub refused_at : ℕ → Option Ground → Result (Unit {0}) Refusal
 refused_at at None = Ok tt
-refused_at at (Some g) = Err (record { ground = g; at = at })
+refused_at at (Some g) = Err (refusal_of g at)
 
 abbrev pub between : ℕ → ℕ → ℕ → Bool
 between low high n = nat_le low n && nat_le n high

@@ -1,5 +1,6 @@
 //! The calls of a sheet.
 ghost use Rattle.std.specs.Prelude.{◌≡◌, min, length, Err};
+ghost use Rattle.terms.specs.Questions.{refusal_of};
 ghost use Rattle.sheet.specs.declared.call.Call.TheVariants as asked;
 ghost use Rattle.sheet.specs.Calls.{Does, scheduled_size};
 ghost use Rattle.design.specs.Contents.{new_sheet};
@@ -23,7 +24,7 @@ pub(super) const LARGEST: u16 = 60_000;
 
 // A refusal at a mark.
 fn refuse<T>(ground: Ground, mark: u16) -> Result<T, Refusal>
-    ensures { result ≡ Err (record { ground = ground; at = mark }) }
+    ensures { result ≡ Err (refusal_of ground mark) }
 {
     Err(Refusal {
         ground,
