@@ -7,7 +7,7 @@ use Rattle.register.proofs.Kept.{Holds}
 use Rattle.design.specs.declared.line.Line.{Line}
 use Rattle.design.specs.Lines.{no_line, mark_of, line_kept, unscheduled, scheduled_as, scheduled_by}
 use Rattle.design.specs.Contents.{Contents}
-use Rattle.sheet.specs.Sheets.{SizedTo}
+use Rattle.sheet.specs.Sheets.{ClearedTo, SizedTo}
 
 pub held-contents : (h : Option Hull) (b : Bool) (n : ℕ) (s xs : List Line) (room : ℕ) → Holds mark_of no_line n s xs room
     → ◌≡◌ {A = Contents} (record { hull = h; lines = take n s; settled = b; room = length s }) (record { hull = h; lines = xs; settled = b; room = room })
@@ -40,6 +40,10 @@ scheduled_none (l ∷ ls) = ap (λ y. unscheduled l ∷ y) (scheduled_none ls)
 pub kept_scheduled : (f : ℕ → ℕ) (ls : List Line) → each line_kept (scheduled_by f ls) ≡ each line_kept ls
 kept_scheduled f [] = refl
 kept_scheduled f (l ∷ ls) = ap (λ b. line_kept l && b) (kept_scheduled (λ i. f (suc i)) ls)
+
+-- lines that have lost their sizes have the size 0
+pub cleared_sized : (s : List Line) (n : ℕ) (s' : List Line) → ClearedTo s n s' → SizedTo s (λ _. 0) n s'
+cleared_sized s n s' w = record { long = w.long; done = w.done; rest = w.rest }
 
 -- what is left once the first n lines have their sizes
 module _ (n : ℕ) (s : List Line) (fits : n ≤ length s) (up : climbs mark_of 0 (take n s) ≡ true) (rest : drop n s ≡ replicate (length s - n) no_line) where

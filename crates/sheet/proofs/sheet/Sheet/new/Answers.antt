@@ -12,7 +12,14 @@ left c =
     (c.new-lines.ensures.slots ∙ ap (λ k. replicate k no_line) (c.split_at_mut-front.ensures.front-len ∙ c.min-room.ensures))
 
 pub invariant_of-result : goal.invariant_of-result
-invariant_of-result c = let a = left c in (a.fits, (omega (arith, a.whole), (a.climbing, (a.rest, (refl, (ap (each line_kept) a.held, tt))))))
+invariant_of-result c = let a = left c in record {
+      fits = a.fits;
+      small = omega (arith, a.whole);
+      climbing = a.climbing;
+      rest = a.rest;
+      proper = refl;
+      limits = ap (each line_kept) a.held;
+    }
 
 pub returns : goal.returns
 returns c = held-contents _ _ _ _ _ _ (left (goal.at.returns c).After-new-lines)

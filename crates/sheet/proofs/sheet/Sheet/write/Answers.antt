@@ -16,7 +16,14 @@ left c =
     c.write_all.ensures.count c.write_all.ensures.sized
 
 pub invariant_of-self : goal.invariant_of-self
-invariant_of-self c = let a = left c in (a.fits, (omega (arith, a.whole, c.args.self.now.small), (a.climbing, (a.rest, (c.args.self.now.proper, (ap (each line_kept) a.held ∙ kept_scheduled (listed c.args.sizes.now) (take c.args.self.now.lines.count c.args.self.now.lines.slots.now) ∙ c.args.self.now.limits, tt))))))
+invariant_of-self c = let a = left c in record {
+      fits = a.fits;
+      small = omega (arith, a.whole, c.args.self.now.small);
+      climbing = a.climbing;
+      rest = a.rest;
+      proper = c.args.self.now.proper;
+      limits = ap (each line_kept) a.held ∙ kept_scheduled (listed c.args.sizes.now) (take c.args.self.now.lines.count c.args.self.now.lines.slots.now) ∙ c.args.self.now.limits;
+    }
 
 pub write_all-requires : goal.write_all-requires
 write_all-requires c = record { slots = c.args.self.now.fits; sizes = let h = c.requires in omega (arith, length-take-le c.args.self.now.lines.count c.args.self.now.lines.slots.now c.args.self.now.fits) }

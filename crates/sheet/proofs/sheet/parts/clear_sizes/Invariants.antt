@@ -1,5 +1,5 @@
-use Rattle.sheet.specs.Sheets.{SizedTo}
+use Rattle.sheet.specs.Sheets.{ClearedTo}
 use Rattle.sheet.proofs.sheet.parts.clear_sizes.Given as goal
 
 abbrev pub invariant-loop-i : goal.invariant-loop-i
-invariant-loop-i l = SizedTo l.initial.slots (λ _. 0) l.i l.slots
+invariant-loop-i l = ClearedTo l.initial.slots l.i l.slots

@@ -9,7 +9,14 @@ good s = record { fits = s.fits; small = s.small; climbing = s.climbing; rest = 
 pub invariant_of-self : goal.invariant_of-self
 invariant_of-self c =
     let a = still_good c.args.self.now.lines c.put_in.new.lines c.args.place c.args.size c.put_in.ensures.laid (good c.args.self.now) in
-    (a.fits, (a.small, (a.climbing, (a.rest, (c.args.self.now.proper, (a.limits, tt))))))
+    record {
+      fits = a.fits;
+      small = a.small;
+      climbing = a.climbing;
+      rest = a.rest;
+      proper = c.args.self.now.proper;
+      limits = a.limits;
+    }
 
 pub returns : goal.returns
 returns c =
