@@ -1,7 +1,7 @@
 -- The clauses of a rule book, and the rules that they make.
-use Rattle.std.specs.Prelude.{◌≡◌, ℕ, ◌≤◌, Bool, true, false, cond, not, ◌&&◌, ◌||◌, List, [], ◌∷◌, ◌==◌}
+use Rattle.std.specs.Prelude.{ℕ, ◌≤◌, Bool, true, false, cond, not, ◌&&◌, ◌||◌, List, [], ◌∷◌, ◌==◌}
 use Rattle.std.proofs.Common.{arith}
-use Rattle.std.proofs.lemmas.Bool.{cond_both, cond-false, or_left, not_from_false}
+use Rattle.std.proofs.lemmas.Bool.{cond-false, or_left, not_from_false}
 use Rattle.terms.specs.declared.entry.Entry.{Entry}
 use Rattle.terms.specs.declared.hull.Hull.{Hull}
 use Rattle.terms.specs.Rules.{Rules, Law}
