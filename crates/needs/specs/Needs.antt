@@ -1,5 +1,5 @@
 -- What a member needs by itself.
-use Rattle.std.specs.Prelude.{◌≡◌, ℕ, Bool, true, false, List, [], ◌∷◌, ◌++◌, Some, None, Ok, Err, Result, nat_lt}
+use Rattle.std.specs.Prelude.{◌≡◌, ℕ, Bool, List, [], ◌∷◌, ◌++◌, Some, None, Ok, Err, Result, nat_lt}
 use Rattle.terms.specs.declared.entry.Entry.{Entry}
 use Rattle.terms.specs.declared.ground.Ground.TheVariants.{MarkZero, LineUnfit}
 use Rattle.terms.specs.declared.hull.Hull.{Hull}

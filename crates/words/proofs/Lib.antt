@@ -1,5 +1,4 @@
 pub mod Back
 pub mod Bounds
 pub mod Cuts
-pub mod Names
 pub mod Values

@@ -21,15 +21,15 @@ impl Form {
     pub fn of(word: &[u8]) -> Form
         ensures { result ≡ form_of word.now }
     {
-        if word == b"book" {
+        if word == b"book".as_slice() {
             Form::Book
-        } else if word == b"plates" {
+        } else if word == b"plates".as_slice() {
             Form::Plates
-        } else if word == b"stiffeners" {
+        } else if word == b"stiffeners".as_slice() {
             Form::Stiffeners
-        } else if word == b"hull" {
+        } else if word == b"hull".as_slice() {
             Form::Hull
-        } else if word == b"enter" {
+        } else if word == b"enter".as_slice() {
             Form::Enter
         } else {
             Form::Any

@@ -6,7 +6,7 @@ use Rattle.words.proofs.Values.{after_front, after_none, no_word_left, word-left
 use Rattle.words.proofs.numbers.numbers.Goals as goal
 
 pub loop-i-init : goal.loop-i-init
-loop-i-init g c = (c.well-formed.1.0.1.0.1, length-replicate g.row.N 0, after_none _)
+loop-i-init g c = (c.well_formed.1.0.1.0.1, length-replicate g.row.N 0, after_none _)
 
 pub returns-in_err-word : goal.returns-in_err-word
 returns-in_err-word g c =
