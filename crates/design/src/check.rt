@@ -70,9 +70,9 @@ fn first_without_neighbour(lines: &[Line]) -> Option<Line>
 
 // The first line that does not fit.
 fn first_unfit<D: DesignBasis>(basis: &mut D, hull: Hull, lines: &[Line]) -> Option<Line>
-    ensures value { result ≡ first_with (λ l. unfit (setting basis.old) hull l.entry) lines.now }
-    ensures same { setting basis.new ≡ setting basis.old }
-    ensures lent { lenders basis.new ≡ lenders basis.old }
+    ensures value { result ≡ first_with (λ l. unfit (D.setting basis.old) hull l.entry) lines.now }
+    ensures same { D.setting basis.new ≡ D.setting basis.old }
+    ensures lent { D.lenders basis.new ≡ D.lenders basis.old }
 {
     for line in lines {
         if !basis.fits(hull, line.entry) {
@@ -89,9 +89,9 @@ pub fn ready_hull<D: DesignBasis>(
     hull: Option<Hull>,
     lines: &[Line],
 ) -> Result<Hull, Refusal>
-    ensures value { result ≡ ready_hull (setting basis.old) hull lines.now }
-    ensures same { setting basis.new ≡ setting basis.old }
-    ensures lent { lenders basis.new ≡ lenders basis.old }
+    ensures value { result ≡ ready_hull (D.setting basis.old) hull lines.now }
+    ensures same { D.setting basis.new ≡ D.setting basis.old }
+    ensures lent { D.lenders basis.new ≡ D.lenders basis.old }
 {
     let Some(hull) = hull else {
         return Err(Refusal {
@@ -110,9 +110,9 @@ pub fn ready_hull<D: DesignBasis>(
 
 // Whether the line that touches another is obliged to more than its laid size.
 fn is_below_pull<D: DesignBasis>(basis: &mut D, hull: Hull, line: Line, other: Line) -> bool
-    ensures value { result ≡ (touching line.entry other.entry && nat_lt line.laid ((setting basis.old).rules.pull hull line.entry other.entry other.laid)) }
-    ensures same { setting basis.new ≡ setting basis.old }
-    ensures lent { lenders basis.new ≡ lenders basis.old }
+    ensures value { result ≡ (touching line.entry other.entry && nat_lt line.laid ((D.setting basis.old).rules.pull hull line.entry other.entry other.laid)) }
+    ensures same { D.setting basis.new ≡ D.setting basis.old }
+    ensures lent { D.lenders basis.new ≡ D.lenders basis.old }
 {
     are_touching(line.entry, other.entry)
         && line.laid < basis.pull(hull, line.entry, other.entry, other.laid)
@@ -121,9 +121,9 @@ fn is_below_pull<D: DesignBasis>(basis: &mut D, hull: Hull, line: Line, other: L
 // The mark of the first line whose pull line i does not bear.
 fn first_pull<D: DesignBasis>(basis: &mut D, hull: Hull, lines: &[Line], i: usize) -> Option<u16>
     requires { i < length lines.now }
-    ensures value { Pulled (job (setting basis.old) hull lines.now) i result }
-    ensures same { setting basis.new ≡ setting basis.old }
-    ensures lent { lenders basis.new ≡ lenders basis.old }
+    ensures value { Pulled (job (D.setting basis.old) hull lines.now) i result }
+    ensures same { D.setting basis.new ≡ D.setting basis.old }
+    ensures lent { D.lenders basis.new ≡ D.lenders basis.old }
 {
     let line = lines[i];
     for k in 0..lines.len() {
@@ -142,9 +142,9 @@ fn failure_at<D: DesignBasis>(
     i: usize,
 ) -> Option<Failure>
     requires { i < length lines.now }
-    ensures value { Failing (job (setting basis.old) hull lines.now) i result }
-    ensures same { setting basis.new ≡ setting basis.old }
-    ensures lent { lenders basis.new ≡ lenders basis.old }
+    ensures value { Failing (job (D.setting basis.old) hull lines.now) i result }
+    ensures same { D.setting basis.new ≡ D.setting basis.old }
+    ensures lent { D.lenders basis.new ≡ D.lenders basis.old }
 {
     let line = lines[i];
     let mark = line.entry.mark;
@@ -174,9 +174,9 @@ fn failure_at<D: DesignBasis>(
 
 // The first failure of the laid sizes, line by line.
 fn judge<D: DesignBasis>(basis: &mut D, hull: Hull, lines: &[Line]) -> Verdict
-    ensures value { Judged (job (setting basis.old) hull lines.now) (laid_sizes (job (setting basis.old) hull lines.now)) result }
-    ensures same { setting basis.new ≡ setting basis.old }
-    ensures lent { lenders basis.new ≡ lenders basis.old }
+    ensures value { Judged (job (D.setting basis.old) hull lines.now) (laid_sizes (job (D.setting basis.old) hull lines.now)) result }
+    ensures same { D.setting basis.new ≡ D.setting basis.old }
+    ensures lent { D.lenders basis.new ≡ D.lenders basis.old }
 {
     for i in 0..lines.len() {
         if let Some(failure) = failure_at(basis, hull, lines, i) {
@@ -193,9 +193,9 @@ pub fn check_lines<D: DesignBasis>(
     hull: Option<Hull>,
     lines: &[Line],
 ) -> Result<Verdict, Refusal>
-    ensures value { Checks (setting basis.old) hull lines.now result }
-    ensures same { setting basis.new ≡ setting basis.old }
-    ensures lent { lenders basis.new ≡ lenders basis.old }
+    ensures value { Checks (D.setting basis.old) hull lines.now result }
+    ensures same { D.setting basis.new ≡ D.setting basis.old }
+    ensures lent { D.lenders basis.new ≡ D.lenders basis.old }
 {
     let hull = ready_hull(basis, hull, lines)?;
     Ok(judge(basis, hull, lines))

@@ -1,13 +1,12 @@
 -- What a trial makes of the lines, said by the place where it lays its size.
-use Rattle.std.proofs.Common.{◌≡◌, ℕ, Bool, true, false, cond, leb, List, [], ◌∷◌, length, get_or, is_some, Some, None, Option, sym, refl, ap, ◌∙◌, arith}
+use Rattle.std.proofs.Common.{◌≡◌, ℕ, Bool, true, false, cond, leb, [], ◌∷◌, length, get_or, is_some, Some, None, Option, sym, refl, ap, ◌∙◌, arith}
 use Rattle.std.proofs.lemmas.List.{set_past}
 use Rattle.register.specs.Keys.{place_of, changed}
 use Rattle.register.proofs.Orders.{found}
 use Rattle.terms.specs.declared.ground.Ground.TheVariants.{MarkUnknown, SizeOverLimit}
 use Rattle.terms.specs.Questions.{◌else◌, all_yes}
-use Rattle.design.specs.declared.line.Line.{Line}
 use Rattle.design.specs.Contents.{Contents, with_lines}
-use Rattle.design.specs.Lines.{no_line, mark_of, line_of, laid_as}
+use Rattle.design.specs.Lines.{no_line, mark_of, laid_as}
 use Rattle.design.proofs.Places.{at_place, line_is}
 use Rattle.trial.specs.Trials.{tried, laid_at, lay_at, place_or, trial_place}
 

@@ -124,7 +124,7 @@ impl<'t, S: Lines> Trial<'t, S> {
 
     /// The lines under the trial, by rising mark.
     pub fn lines(&self) -> &[Line]
-        ensures { result.now ≡ (S.Lines.contents self.entry.now.lines.now).lines }
+        ensures { result.now ≡ (S.Lines.contents self.now.lines.now).lines }
     {
         self.lines.lines()
     }
@@ -136,7 +136,7 @@ impl<'t, S: Lines> Trial<'t, S> {
         plates: &mut P,
         stiffeners: &mut Q,
     ) -> Result<Verdict, Refusal>
-        ensures value { Checks (set_by (B.RuleBook.meaning book.old) (P.Stock.members plates.old) (Q.Stock.members stiffeners.old)) (S.Lines.contents self.entry.now.lines.now).hull (S.Lines.contents self.entry.now.lines.now).lines result }
+        ensures value { Checks (set_by (B.RuleBook.meaning book.old) (P.Stock.members plates.old) (Q.Stock.members stiffeners.old)) (S.Lines.contents self.now.lines.now).hull (S.Lines.contents self.now.lines.now).lines result }
         ensures book { B.RuleBook.meaning book.new ≡ B.RuleBook.meaning book.old }
         ensures plates { P.Stock.members plates.new ≡ P.Stock.members plates.old }
         ensures stiffeners { Q.Stock.members stiffeners.new ≡ Q.Stock.members stiffeners.old }
@@ -154,15 +154,15 @@ impl<'t, S: Lines> Trial<'t, S> {
 pub trait Trying: Lines {
     /// Whether a trial of the size on the line of the mark may begin.
     fn may_try(&self, mark: u16, size: u16) -> Result<(), Refusal>
-        ensures { result ≡ trial_answer (Self.Lines.contents self.entry.now) mark size };
+        ensures { result ≡ trial_answer (Self.Lines.contents self.now) mark size };
 
     /// Begins a trial, which is idle where it may not begin.
     fn trial(&mut self, mark: u16, size: u16) -> Trial<'_, Self>
     where
         Self: Sized,
         ensures name { result.lines.ghost_name ≡ self.entry.ghost_name }
-        ensures tried { Self.Lines.contents result.lines.now ≡ tried (Self.Lines.contents self.entry.now) mark size }
-        ensures back { (t : Self) → Self.Lines.laid result.lines.now result.place result.old t → t ≡ self.entry.now };
+        ensures tried { Self.Lines.contents result.lines.now ≡ tried (Self.Lines.contents self.old) mark size }
+        ensures back { (t : Self) → Self.Lines.laid result.lines.now result.place result.old t → t ≡ self.old };
 }
 
 impl<S: Lines> Trying for S {
