@@ -5,6 +5,7 @@ use Rattle.terms.specs.declared.ground.Ground.{Ground}
 use Rattle.terms.specs.declared.ground.Ground.TheVariants.{HullMissing, NeighbourMissing, LineUnfit}
 use Rattle.terms.specs.declared.hull.Hull.{Hull}
 use Rattle.terms.specs.declared.refusal.Refusal.{Refusal}
+use Rattle.terms.specs.Questions.{refusal_of}
 use Rattle.design.specs.declared.line.Line.{Line}
 use Rattle.design.specs.declared.verdict.Failure.{Failure}
 use Rattle.design.specs.declared.verdict.Shortfall.{Shortfall}
@@ -72,11 +73,11 @@ unfit s h e = not (s.rules.fits h e)
 -- refused on a ground at the mark of a line, if there is such a line
 abbrev pub refused_by : {A : Type 0} → (ground : Ground) → Option Line → Result A Refusal → Result A Refusal
 refused_by g None r = r
-refused_by g (Some l) r = Err (record { ground = g; at = mark_of l })
+refused_by g (Some l) r = Err (refusal_of g (mark_of l))
 
 -- what is asked before lines are judged or settled: the hull, or the first question with a no
 abbrev pub ready_hull : Setting → Option Hull → List Line → Result Hull Refusal
-ready_hull s None ls = Err (record { ground = HullMissing; at = 0 })
+ready_hull s None ls = Err (refusal_of HullMissing 0)
 ready_hull s (Some h) ls =
     refused_by NeighbourMissing (first_with (λ l. names_missing ls l.entry) ls) (refused_by LineUnfit (first_with (λ l. unfit s h l.entry) ls) (Ok h))
 

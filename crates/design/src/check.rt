@@ -1,5 +1,6 @@
 //! Laid sizes, judged as a design.
 ghost use Rattle.std.specs.Prelude.{◌≡◌, ◌<◌, not, ◌&&◌, length, Err, nat_lt};
+ghost use Rattle.terms.specs.Questions.{refusal_of};
 ghost use Rattle.design.specs.Lines.{first_with, there_in};
 ghost use Rattle.design.specs.Schedules.{touching, job, laid_sizes};
 ghost use Rattle.design.specs.Verdicts.{missing, names_missing, unfit, ready_hull, Pulled, Failing, Judged, Checks};
@@ -14,7 +15,7 @@ use terms::refusal::Refusal;
 
 // A refusal at the mark of a line.
 fn refuse<T>(ground: Ground, line: Line) -> Result<T, Refusal>
-    ensures { result ≡ Err (record { ground = ground; at = line.entry.mark }) }
+    ensures { result ≡ Err (refusal_of ground line.entry.mark) }
 {
     Err(Refusal {
         ground,

@@ -2,6 +2,7 @@
 use Rattle.std.specs.Prelude.{ℕ, cond, Ok, Err, Result, ◌==◌}
 use Rattle.terms.specs.declared.ground.Ground.TheVariants.{BookUnknown}
 use Rattle.terms.specs.declared.refusal.Refusal.{Refusal}
+use Rattle.terms.specs.Questions.{refusal_of}
 use Rattle.terms.specs.Rules.{Rules}
 use Rattle.steel.specs.Steel.{steel}
 use Rattle.plastic.specs.Plastic.{plastic}
@@ -12,7 +13,7 @@ use Rattle.sizing.specs.declared.book.Book.TheVariants.{Steel, Plastic, Aluminiu
 abbrev pub numbered : ℕ → Result Book Refusal
 numbered n =
     cond (n == 1) (Ok Steel) (cond (n == 2) (Ok Plastic) (cond (n == 3) (Ok Aluminium)
-    (Err (record { ground = BookUnknown; at = 0 }))))
+    (Err (refusal_of BookUnknown 0))))
 
 abbrev pub rules_of : Book → Rules
 rules_of Steel = steel

@@ -6,7 +6,7 @@ use Rattle.terms.specs.declared.ground.Ground.{Ground}
 use Rattle.terms.specs.declared.ground.Ground.TheVariants.{BuildUpOutOfRange}
 use Rattle.terms.specs.declared.hull.Hull.{Hull}
 use Rattle.terms.specs.declared.refusal.Refusal.{Refusal}
-use Rattle.terms.specs.Questions.{first_no, hull_questions}
+use Rattle.terms.specs.Questions.{first_no, hull_questions, refusal_of}
 use Rattle.terms.specs.Rules.{Rules}
 use Rattle.stocks.specs.BuildUps.{buildable, built}
 use Rattle.stocks.specs.declared.build_up.BuildUp.{BuildUp}
@@ -68,11 +68,11 @@ noted_book (Ok b) = reply.Noted
 noted_book (Err e) = reply.Refused e
 
 abbrev pub noted_stock : Series → Reply
-noted_stock p = cond (makes_stock p) reply.Noted (reply.Refused (record { ground = BuildUpOutOfRange; at = 0 }))
+noted_stock p = cond (makes_stock p) reply.Noted (reply.Refused (refusal_of BuildUpOutOfRange 0))
 
 abbrev pub noted_hull : Option Ground → Reply
 noted_hull None = reply.Noted
-noted_hull (Some g) = reply.Refused (record { ground = g; at = 0 })
+noted_hull (Some g) = reply.Refused (refusal_of g 0)
 
 -- what a member is answered by a book, two stocks and a hull
 abbrev pub Sized : Rules → (ℕ → Bool) → (ℕ → Bool) → Hull → Entry → Reply → Type 0
