@@ -4,7 +4,7 @@
 ghost use Rattle.std.specs.Prelude.{◌≡◌, ◌*◌, ◌^◌, max};
 ghost use Rattle.clauses.specs.Panels.{bending, panel_thickness};
 ghost use Rattle.clauses.specs.Rounding.{divided_up};
-ghost use Rattle.aluminium.specs.Aluminium.{aluminium, aluminium-law, stiffener, fits, panel_factor, stiffener_factor, aspect, own, pull};
+ghost use Rattle.aluminium.specs.Aluminium.{aluminium, aluminium_law, stiffener, fits, panel_factor, stiffener_factor, aspect, own, pull};
 
 use clauses::panel::{bending_of, thickness_of};
 use clauses::rounding::{divided_up, end_size};
@@ -119,7 +119,7 @@ impl RuleBook for Aluminium {
 
     ghost meaning = { λ _. aluminium };
 
-    ghost law = { λ _. aluminium-law };
+    ghost law = { λ _. aluminium_law };
 
     fn fits(&mut self, hull: Hull, line: Entry) -> bool {
         line_fits(hull, line)

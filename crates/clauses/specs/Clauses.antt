@@ -81,8 +81,8 @@ cond_ends : (t : Bool) (n : ℕ) → cond t (ended n) 0 ≤ 60001
 cond_ends true n = omega arith
 cond_ends false n = omega arith
 
-pub law-by : (b : Clauses) → Rising b → Law (rules_by b)
-law-by b rising = record {
+pub law_by : (b : Clauses) → Rising b → Law (rules_by b)
+law_by b rising = record {
   rising = λ hull line neighbour m n h. cond_rises (b.fits hull line) (b.pull line neighbour m) (b.pull line neighbour n) (rising line neighbour m n h);
   own_ends = λ hull line. cond_ends (b.fits hull line) (b.own hull line);
   pull_ends = λ hull line neighbour n. cond_ends (b.fits hull line) (b.pull line neighbour n);

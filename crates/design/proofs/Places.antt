@@ -8,16 +8,16 @@ abbrev pub at_place : Option ℕ → List Line → Option Line
 at_place None ls = None
 at_place (Some p) ls = Some (get_or ls p no_line)
 
-at-further : (o : Option ℕ) (l : Line) (ls : List Line) → at_place o ls ≡ at_place (further 1 o) (l ∷ ls)
-at-further None l ls = refl
-at-further (Some p) l ls = ap (λ k. Some (get_or (l ∷ ls) k no_line)) (sym (one-add p))
+at_further : (o : Option ℕ) (l : Line) (ls : List Line) → at_place o ls ≡ at_place (further 1 o) (l ∷ ls)
+at_further None l ls = refl
+at_further (Some p) l ls = ap (λ k. Some (get_or (l ∷ ls) k no_line)) (sym (one-add p))
 
 -- the line of a mark stands at the place of the mark
 pub line_is : (m : ℕ) (ls : List Line) → line_of m ls ≡ at_place (place_of mark_of m ls) ls
 line_is m [] = refl
 line_is m (l ∷ ls) =
     elim (eqb (mark_of l) m) as (λ b. cond b (Some l) (line_of m ls) ≡ at_place (cond b (Some 0) (further 1 (place_of mark_of m ls))) (l ∷ ls))
-    [ true ↦ refl | false ↦ line_is m ls ∙ at-further (place_of mark_of m ls) l ls ]
+    [ true ↦ refl | false ↦ line_is m ls ∙ at_further (place_of mark_of m ls) l ls ]
 
 at_there : (o : Option ℕ) (ls : List Line) → is_some (at_place o ls) ≡ is_some o
 at_there None ls = refl

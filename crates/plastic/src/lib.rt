@@ -2,7 +2,7 @@
 #![tactic(auto)]
 
 ghost use Rattle.std.specs.Prelude.{◌≡◌, ◌^◌, ◌<◌};
-ghost use Rattle.plastic.specs.Plastic.{plastic, plastic-law, stiffener, fits, head, GreaterHead, modulus, keelson, own, pull};
+ghost use Rattle.plastic.specs.Plastic.{plastic, plastic_law, stiffener, fits, head, GreaterHead, modulus, keelson, own, pull};
 
 use clauses::panel::bending_of;
 use clauses::rounding::{divided_up, end_size, percentage};
@@ -101,7 +101,7 @@ impl RuleBook for Plastic {
 
     ghost meaning = { λ _. plastic };
 
-    ghost law = { λ _. plastic-law };
+    ghost law = { λ _. plastic_law };
 
     fn fits(&mut self, hull: Hull, line: Entry) -> bool {
         line_fits(hull, line)

@@ -40,8 +40,8 @@ module _ {X : Type 0} (key : X → ℕ) (k : ℕ) (xs : List X) (i : ℕ) where
         let t' : eqb (key (get_or xs i x)) k ≡ true = ap (λ y. eqb (key y) k) (sym is) ∙ t in
         inv ∙ ap (further i) (at_drop_more (place_of key k) xs i x h ∙ ap (λ b. cond b (Some 0) (further 1 (place_of key k (drop (i + 1) xs)))) t') ∙ ap Some (add-zero i)
 
-    pub place-passed : PlaceInv → eqb (key x) k ≡ false → place_of key k xs ≡ further (i + 1) (place_of key k (drop (i + 1) xs))
-    place-passed inv t =
+    pub place_passed : PlaceInv → eqb (key x) k ≡ false → place_of key k xs ≡ further (i + 1) (place_of key k (drop (i + 1) xs))
+    place_passed inv t =
         let t' : eqb (key (get_or xs i x)) k ≡ false = ap (λ y. eqb (key y) k) (sym is) ∙ t in
         inv ∙ ap (further i) (at_drop_more (place_of key k) xs i x h ∙ ap (λ b. cond b (Some 0) (further 1 (place_of key k (drop (i + 1) xs)))) t') ∙ further-further i 1 (place_of key k (drop (i + 1) xs))
 
@@ -50,8 +50,8 @@ module _ {X : Type 0} (key : X → ℕ) (k : ℕ) (xs : List X) (i : ℕ) where
         let t' : ltb k (key (get_or xs i x)) ≡ true = ap (λ y. ltb k (key y)) (sym is) ∙ t in
         inv ∙ ap (λ n. i + n) (at_drop_more (rank key k) xs i x h ∙ ap (λ b. cond b 0 (1 + rank key k (drop (i + 1) xs))) t') ∙ add-zero i
 
-    pub rank-passed : RankInv → ltb k (key x) ≡ false → rank key k xs ≡ i + 1 + rank key k (drop (i + 1) xs)
-    rank-passed inv t =
+    pub rank_passed : RankInv → ltb k (key x) ≡ false → rank key k xs ≡ i + 1 + rank key k (drop (i + 1) xs)
+    rank_passed inv t =
         let t' : ltb k (key (get_or xs i x)) ≡ false = ap (λ y. ltb k (key y)) (sym is) ∙ t in
         inv ∙ ap (λ n. i + n) (at_drop_more (rank key k) xs i x h ∙ ap (λ b. cond b 0 (1 + rank key k (drop (i + 1) xs))) t') ∙ sym (add_assoc i 1 (rank key k (drop (i + 1) xs)))
 

@@ -2,7 +2,7 @@
 #![tactic(auto)]
 
 ghost use Rattle.std.specs.Prelude.{◌≡◌};
-ghost use Rattle.steel.specs.Steel.{steel, steel-law, stiffener, proportioned, fits, own, pull};
+ghost use Rattle.steel.specs.Steel.{steel, steel_law, stiffener, proportioned, fits, own, pull};
 
 use clauses::panel::bending_of;
 use clauses::rounding::{divided_up, end_size, percentage};
@@ -69,7 +69,7 @@ impl RuleBook for Steel {
 
     ghost meaning = { λ _. steel };
 
-    ghost law = { λ _. steel-law };
+    ghost law = { λ _. steel_law };
 
     fn fits(&mut self, hull: Hull, line: Entry) -> bool {
         line_fits(hull, line)

@@ -38,12 +38,12 @@ built_decides first step count n =
     Decides-below_or (λ k. nat_eq n (first + k * step)) (λ k. n ≡ first + k * step) (λ m. built first step m n) (λ k. Decides-eqb n (first + k * step)) refl (λ _. refl) count
 
 -- no size is above the last
-pub size-within : (first step count k : ℕ) → last_size first step count ≤ 60000 → k < count → first + k * step ≤ 60000
-size-within first step count k within below = omega (arith, mul-le k step (count - 1) step (omega arith) (omega arith))
+pub size_within : (first step count k : ℕ) → last_size first step count ≤ 60000 → k < count → first + k * step ≤ 60000
+size_within first step count k within below = omega (arith, mul-le k step (count - 1) step (omega arith) (omega arith))
 
 -- every size is from 1 to 60,000
 pub built_ranged : (first step count : ℕ) → 0 < first → last_size first step count ≤ 60000 → Ranged (built first step count)
 built_ranged first step count above within n e =
     let size = (built_decides first step count n).0 e in
-    let top = size-within first step count size.0 within size.1 in
+    let top = size_within first step count size.0 within size.1 in
     (omega arith, omega arith)

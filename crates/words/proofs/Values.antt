@@ -57,8 +57,8 @@ module _ (limits front : List ℕ) (i : ℕ) (words : List (List ℕ)) where
   no_word_left inside none =
       ap (after_front front) (ap (numbers_of (drop i limits)) none ∙ at_drop_more (λ ls. numbers_of ls []) limits i 0 inside)
 
-  pub word-left : (word : List ℕ) (later : List (List ℕ)) → length limits ≤ i → words ≡ word ∷ later → after_front front (numbers_of (drop i limits) words) ≡ None
-  word-left word later past some =
+  pub word_left : (word : List ℕ) (later : List (List ℕ)) → length limits ≤ i → words ≡ word ∷ later → after_front front (numbers_of (drop i limits) words) ≡ None
+  word_left word later past some =
       ap (after_front front) (ap (numbers_of (drop i limits)) some ∙ at_drop_all (λ ls. numbers_of ls (word ∷ later)) limits i past)
 
   pub all_read : length limits ≤ i → words ≡ [] → after_front front (numbers_of (drop i limits) words) ≡ Some front

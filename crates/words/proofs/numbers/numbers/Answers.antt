@@ -2,7 +2,7 @@ use Rattle.std.proofs.Common.{◌+◌, ◌<◌, length, take, drop, Some, sym, a
 use Rattle.std.proofs.lemmas.List.{length-replicate, length-set, take_all, take_more_set}
 use Rattle.words.specs.Words.{words_of}
 use Rattle.words.specs.Numbers.{numbers_of}
-use Rattle.words.proofs.Values.{after_front, after_none, no_word_left, word-left, all_read, no_number, number_more}
+use Rattle.words.proofs.Values.{after_front, after_none, no_word_left, word_left, all_read, no_number, number_more}
 use Rattle.words.proofs.numbers.numbers.Goals as goal
 
 pub loop-i-init : goal.loop-i-init
@@ -36,7 +36,7 @@ loop-i-preserved g c =
 
 pub returns-in-Some : goal.returns-in-Some
 returns-in-Some g c =
-    sym (word-left c.args.limits (take c.loop-i.i c.loop-i.values) c.loop-i.i (words_of c.loop-i.rest.now) _ _ (omega arith) c.in-Some.ensures)
+    sym (word_left c.args.limits (take c.loop-i.i c.loop-i.values) c.loop-i.i (words_of c.loop-i.rest.now) _ _ (omega arith) c.in-Some.ensures)
     ∙ c.loop-i.invariant.2
 
 pub returns-in-None : goal.returns-in-None

@@ -1,5 +1,5 @@
 use Rattle.std.proofs.Common.{◌+◌, ◌*◌, ◌≤◌, refl, arith}
-use Rattle.stocks.specs.BuildUps.{size-within}
+use Rattle.stocks.specs.BuildUps.{size_within}
 use Rattle.stocks.proofs.Stepping.{least_size, no_size}
 use Rattle.stocks.proofs.build_up.BuildUpStock.at_least.Goals as goal
 
@@ -11,7 +11,7 @@ returns-in_err-steps c =
 within : (c : goal.In_ok-steps) → c.args.self.now.first + c.in_ok-steps.steps * c.args.self.now.step ≤ 60000
 within c =
     let s = c.args.self.now in
-    size-within s.first s.step s.count c.in_ok-steps.steps s.within c.in_ok-steps.ensures.0
+    size_within s.first s.step s.count c.in_ok-steps.steps s.within c.in_ok-steps.ensures.0
 
 pub overflow_mul-result : goal.overflow_mul-result
 overflow_mul-result c = omega (arith, within c)
