@@ -3,11 +3,11 @@ use Rattle.std.proofs.Common.{◌≡◌, ℕ, ◌+◌, ◌<◌, ◌≤◌, true,
 use Rattle.std.proofs.lemmas.List.{get_or-set_same, get_or-set_other, get_or-take, length-take-le}
 use Rattle.std.proofs.lemmas.Bool.{or_cases, or_left, or_right, cases_eq}
 use Rattle.design.specs.declared.line.Line.{Line}
-use Rattle.design.specs.Schedules.{Job, Lawful, Least, naming, touching, entered, count, touch}
+use Rattle.design.specs.Schedules.{Job, Least, naming, touching, entered, count, touch}
 use Rattle.least.specs.declared.Pair.{Pair}
 use Rattle.least.specs.declared.Went.TheVariants.{Still}
 use Rattle.least.specs.Least.{listed}
-use Rattle.least.specs.Steps.{Fair, Ready, Paired, Pairs, Holds, HoldTo, Step, no_pair, pair, entry_at, Named}
+use Rattle.least.specs.Steps.{Ready, Paired, Pairs, Holds, HoldTo, Step, no_pair, pair, entry_at, Named}
 
 module _ (j : Job) (pairs : List Pair) (n : ℕ) where
   paired : Pairs j.lines (count j) 0 pairs n → (i k : ℕ) → i < count j → k < count j → touch j i k ≡ true → Paired pairs n i k

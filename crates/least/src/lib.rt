@@ -59,9 +59,9 @@ fn pull_on<D: DesignBasis>(
     requires i { i < length lines.now }
     requires k { k < length lines.now }
     requires room { length lines.now ≤ length sizes.now }
-    ensures value { result ≡ pull (job (setting basis.old) hull lines.now) i k (slice_index sizes.now k) }
-    ensures same { setting basis.new ≡ setting basis.old }
-    ensures lent { lenders basis.new ≡ lenders basis.old }
+    ensures value { result ≡ pull (job (D.setting basis.old) hull lines.now) i k (slice_index sizes.now k) }
+    ensures same { D.setting basis.new ≡ D.setting basis.old }
+    ensures lent { D.lenders basis.new ≡ D.lenders basis.old }
 {
     basis.pull(hull, lines[i].entry, lines[k].entry, sizes[k])
 }
@@ -77,11 +77,11 @@ fn lift<D: DesignBasis>(
 ) -> Went
     requires i { i < length lines.now }
     requires k { k < length lines.now }
-    requires touch { touch (job (setting basis.old) hull lines.now) i k ≡ true }
-    requires ready { Ready (job (setting basis.old) hull lines.now) sizes.old }
-    ensures same { setting basis.new ≡ setting basis.old }
-    ensures lent { lenders basis.new ≡ lenders basis.old }
-    ensures step { Step (job (setting basis.old) hull lines.now) (Holds i k) sizes.old sizes.new result }
+    requires touch { touch (job (D.setting basis.old) hull lines.now) i k ≡ true }
+    requires ready { Ready (job (D.setting basis.old) hull lines.now) sizes.old }
+    ensures same { D.setting basis.new ≡ D.setting basis.old }
+    ensures lent { D.lenders basis.new ≡ D.lenders basis.old }
+    ensures step { Step (job (D.setting basis.old) hull lines.now) (Holds i k) sizes.old sizes.new result }
 {
     let pull = pull_on(basis, hull, lines, i, k, sizes);
     if pull <= sizes[i] {
@@ -105,10 +105,10 @@ fn round<D: DesignBasis>(
     sizes: &mut [u16],
 ) -> Went
     requires pairs { Pairs lines.now (length lines.now) 0 pairs.now (length pairs.now) }
-    requires ready { Ready (job (setting basis.old) hull lines.now) sizes.old }
-    ensures same { setting basis.new ≡ setting basis.old }
-    ensures lent { lenders basis.new ≡ lenders basis.old }
-    ensures step { Step (job (setting basis.old) hull lines.now) (HoldTo pairs.now (length pairs.now)) sizes.old sizes.new result }
+    requires ready { Ready (job (D.setting basis.old) hull lines.now) sizes.old }
+    ensures same { D.setting basis.new ≡ D.setting basis.old }
+    ensures lent { D.lenders basis.new ≡ D.lenders basis.old }
+    ensures step { Step (job (D.setting basis.old) hull lines.now) (HoldTo pairs.now (length pairs.now)) sizes.old sizes.new result }
 {
     let mut went = Went::Still;
     for p in 0..pairs.len() {
@@ -131,10 +131,10 @@ fn climb<D: DesignBasis>(
     sizes: &mut [u16],
 ) -> bool
     requires pairs { Pairs lines.now (length lines.now) 0 pairs.now (length pairs.now) }
-    requires ready { Ready (job (setting basis.old) hull lines.now) sizes.old }
-    ensures same { setting basis.new ≡ setting basis.old }
-    ensures lent { lenders basis.new ≡ lenders basis.old }
-    ensures least { Searched (job (setting basis.old) hull lines.now) sizes.new result }
+    requires ready { Ready (job (D.setting basis.old) hull lines.now) sizes.old }
+    ensures same { D.setting basis.new ≡ D.setting basis.old }
+    ensures lent { D.lenders basis.new ≡ D.lenders basis.old }
+    ensures least { Searched (job (D.setting basis.old) hull lines.now) sizes.new result }
 {
     'rounds: loop {
         match round(basis, hull, lines, pairs, sizes) {
@@ -147,9 +147,9 @@ fn climb<D: DesignBasis>(
 
 // The smallest size in a line's stock that is at least its laid and its own size.
 fn first_size<D: DesignBasis>(basis: &mut D, hull: Hull, line: Line) -> Option<u16>
-    ensures value { AtLeast (stock_for (setting basis.old) hull line.entry) (max ((setting basis.old).rules.own hull line.entry) line.laid) result }
-    ensures same { setting basis.new ≡ setting basis.old }
-    ensures lent { lenders basis.new ≡ lenders basis.old }
+    ensures value { AtLeast (stock_for (D.setting basis.old) hull line.entry) (max ((D.setting basis.old).rules.own hull line.entry) line.laid) result }
+    ensures same { D.setting basis.new ≡ D.setting basis.old }
+    ensures lent { D.lenders basis.new ≡ D.lenders basis.old }
 {
     let own = basis.own_size(hull, line.entry);
     let floor = own.max(line.laid);
@@ -159,9 +159,9 @@ fn first_size<D: DesignBasis>(basis: &mut D, hull: Hull, line: Line) -> Option<u
 // Gives each line its first size: false if one has none.
 fn start<D: DesignBasis>(basis: &mut D, hull: Hull, lines: &[Line], sizes: &mut [u16]) -> bool
     requires { length lines.now ≤ length sizes.old }
-    ensures same { setting basis.new ≡ setting basis.old }
-    ensures lent { lenders basis.new ≡ lenders basis.old }
-    ensures begun { Readied (job (setting basis.old) hull lines.now) sizes.new result }
+    ensures same { D.setting basis.new ≡ D.setting basis.old }
+    ensures lent { D.lenders basis.new ≡ D.lenders basis.old }
+    ensures begun { Readied (job (D.setting basis.old) hull lines.now) sizes.new result }
 {
     for i in 0..lines.len() {
         match first_size(basis, hull, lines[i]) {
@@ -249,9 +249,9 @@ pub fn least_schedule<D: DesignBasis>(
     hull: Hull,
     lines: &[Line],
 ) -> Option<[u16; 96]>
-    ensures same { setting basis.new ≡ setting basis.old }
-    ensures lent { lenders basis.new ≡ lenders basis.old }
-    ensures least { ScheduledBy (job (setting basis.old) hull lines.now) result }
+    ensures same { D.setting basis.new ≡ D.setting basis.old }
+    ensures lent { D.lenders basis.new ≡ D.lenders basis.old }
+    ensures least { ScheduledBy (job (D.setting basis.old) hull lines.now) result }
 {
     if lines.len() > MOST {
         return None;
