@@ -77,9 +77,9 @@ fn settle_back<D: DesignBasis>(
     marks: &[u16],
     basis: &mut D,
 ) -> Result<(), Refusal>
-    ensures laid { LaidBack (setting basis.old) (contents sheet.old) marks.now result (contents sheet.new) }
-    ensures same { setting basis.new ≡ setting basis.old }
-    ensures lent { lenders basis.new ≡ lenders basis.old }
+    ensures laid { LaidBack (D.setting basis.old) (contents sheet.old) marks.now result (contents sheet.new) }
+    ensures same { D.setting basis.new ≡ D.setting basis.old }
+    ensures lent { D.lenders basis.new ≡ D.lenders basis.old }
 {
     let sizes = scheduled_sizes(sheet.lines());
     let laid = lay_each(sheet, &sizes, marks);

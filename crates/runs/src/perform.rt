@@ -14,9 +14,9 @@ use terms::stock::Stock;
 
 // Makes one call.
 fn perform<D: DesignBasis>(sheet: &mut Sheet<'_>, basis: &mut D, step: Step) -> Result<(), Refusal>
-    ensures takes { Takes (setting basis.old) (contents sheet.old) step result (contents sheet.new) }
-    ensures same { setting basis.new ≡ setting basis.old }
-    ensures lent { lenders basis.new ≡ lenders basis.old }
+    ensures takes { Takes (D.setting basis.old) (contents sheet.old) step result (contents sheet.new) }
+    ensures same { D.setting basis.new ≡ D.setting basis.old }
+    ensures lent { D.lenders basis.new ≡ D.lenders basis.old }
 {
     match step {
         Step::Change(call) => sheet.carry_out(call),
@@ -32,10 +32,10 @@ fn perform_each<D: DesignBasis>(
     answers: &mut [Result<(), Refusal>],
 ) -> usize
     ensures count { result ≡ min (length steps.now) (length answers.old) }
-    ensures run { Run (setting basis.old) (contents sheet.old) (take result steps.now) (take result answers.new) (contents sheet.new) }
+    ensures run { Run (D.setting basis.old) (contents sheet.old) (take result steps.now) (take result answers.new) (contents sheet.new) }
     ensures rest { drop result answers.new ≡ drop result answers.old }
-    ensures same { setting basis.new ≡ setting basis.old }
-    ensures lent { lenders basis.new ≡ lenders basis.old }
+    ensures same { D.setting basis.new ≡ D.setting basis.old }
+    ensures lent { D.lenders basis.new ≡ D.lenders basis.old }
 {
     let count = steps.len().min(answers.len());
     for i in 0..count {

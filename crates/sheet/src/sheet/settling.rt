@@ -16,9 +16,9 @@ use terms::stock::Stock;
 impl Sheet<'_> {
     /// Settles by a design basis of any make.
     pub fn settle_by<D: DesignBasis>(&mut self, basis: &mut D) -> Result<(), Refusal>
-        ensures settles { Settles (setting basis.old) (contents self.old) result (contents self.new) }
-        ensures same { setting basis.new ≡ setting basis.old }
-        ensures lent { lenders basis.new ≡ lenders basis.old }
+        ensures settles { Settles (D.setting basis.old) (contents self.old) result (contents self.new) }
+        ensures same { D.setting basis.new ≡ D.setting basis.old }
+        ensures lent { D.lenders basis.new ≡ D.lenders basis.old }
     {
         let hull = ready_hull(basis, self.hull(), self.lines())?;
         let Some(sizes) = least_schedule(basis, hull, self.lines()) else {

@@ -19,13 +19,13 @@ left c =
 
 pub invariant_of-self : goal.invariant_of-self
 invariant_of-self c = let a = left c in record {
-      fits = a.fits;
-      small = omega (arith, a.whole, c.args.self.now.small);
-      climbing = a.climbing;
-      rest = a.rest;
-      proper = c.args.self.now.proper;
-      limits = ap (each line_kept) a.held ∙ each_placed line_kept mark_of c.args.line _ c.requires.kept c.args.self.now.limits;
-    }
+  fits = a.fits;
+  small = omega (arith, a.whole, c.args.self.now.small);
+  climbing = a.climbing;
+  rest = a.rest;
+  proper = c.args.self.now.proper;
+  limits = ap (each line_kept) a.held ∙ each_placed line_kept mark_of c.args.line _ c.requires.kept c.args.self.now.limits;
+}
 
 pub returns : goal.returns
 returns c = held-contents _ _ _ _ _ _ (left (goal.at.returns c).After-insert)

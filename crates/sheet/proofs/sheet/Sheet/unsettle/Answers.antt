@@ -15,13 +15,13 @@ left c =
 
 pub invariant_of-self : goal.invariant_of-self
 invariant_of-self c = let a = left c in record {
-      fits = a.fits;
-      small = omega (arith, a.whole, c.args.self.now.small);
-      climbing = a.climbing;
-      rest = a.rest;
-      proper = c.args.self.now.proper;
-      limits = ap (each line_kept) a.held ∙ kept_scheduled (λ _. 0) (take c.args.self.now.lines.count c.args.self.now.lines.slots.now) ∙ c.args.self.now.limits;
-    }
+  fits = a.fits;
+  small = omega (arith, a.whole, c.args.self.now.small);
+  climbing = a.climbing;
+  rest = a.rest;
+  proper = c.args.self.now.proper;
+  limits = ap (each line_kept) a.held ∙ kept_scheduled (λ _. 0) (take c.args.self.now.lines.count c.args.self.now.lines.slots.now) ∙ c.args.self.now.limits;
+}
 
 pub returns : goal.returns
 returns c =
