@@ -5,7 +5,7 @@ use Rattle.register.proofs.Orders.{found}
 use Rattle.design.specs.declared.line.Line.{Line}
 use Rattle.design.specs.Lines.{no_line, mark_of}
 use Rattle.design.proofs.Places.{at_place, line_is}
-use Rattle.sheet.specs.Sheets.{Place, Found}
+use Rattle.sheet.specs.Sheets.{Found}
 
 pub place_found : (m : ℕ) (ls : List Line) (o : Option ℕ) → o ≡ place_of mark_of m ls → Found m ls o
 place_found m ls None e = line_is m ls ∙ ap (λ o. at_place o ls) (sym e)

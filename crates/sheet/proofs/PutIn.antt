@@ -1,5 +1,5 @@
 -- What a size that is laid at a place leaves of the lines, of the memory and of the sheet, and that laying the old one back undoes it.
-use Rattle.std.proofs.Common.{◌≡◌, ℕ, zero, suc, ◌+◌, ◌-◌, ◌<◌, ◌≤◌, Bool, true, false, cond, ◌&&◌, ltb, leb, List, [], ◌∷◌, ◌++◌, length, get_or, take, drop, set, replicate, sym, refl, ap, ◌∙◌, subst, ⊎_elim, arith}
+use Rattle.std.proofs.Common.{◌≡◌, ℕ, zero, suc, ◌+◌, ◌-◌, ◌<◌, ◌≤◌, true, false, cond, ◌&&◌, ltb, leb, List, [], ◌∷◌, ◌++◌, length, get_or, take, drop, replicate, sym, refl, ap, ◌∙◌, subst, ⊎_elim, arith}
 use mir.Syntax.{named}
 use denote.Struct.Record.{values_one}
 use Rattle.std.proofs.lemmas.List.{set_past, length-set, length-take-le, take-append-drop, take_at, drop_at, length-append}

@@ -3,7 +3,8 @@ use Rattle.std.specs.Prelude.{◌≡◌, ℕ, Bool, cond, not, List, [], ◌∷�
 use Rattle.register.specs.Keys.{placed, without, changed}
 use Rattle.terms.specs.declared.ground.Ground.TheVariants.{MarkZero, MarkTaken, MarkUnknown, SheetFull, SizeOverLimit, NotSettled}
 use Rattle.terms.specs.declared.refusal.Refusal.{Refusal}
-use Rattle.terms.specs.Questions.{Question, ◌else◌, first_no, refused_at, hull_questions, value_questions, refusal_of}
+pub use Rattle.terms.specs.Questions.{refused_at}
+use Rattle.terms.specs.Questions.{Question, ◌else◌, first_no, hull_questions, value_questions, refusal_of}
 use Rattle.sheet.specs.declared.call.Call.{Call}
 use Rattle.sheet.specs.declared.call.Call.TheVariants as call
 use Rattle.design.specs.declared.line.Line.{Line}

@@ -1,5 +1,5 @@
 -- That a sheet is another with a size laid at a place.
-use Rattle.std.specs.Prelude.{◌≡◌, ℕ, Bool, List, ◌++◌, take, drop}
+use Rattle.std.specs.Prelude.{◌≡◌, ℕ, List, ◌++◌, take, drop}
 use Rattle.register.specs.declared.Register.{Register}
 use Rattle.trial.specs.Trials.{lay_at}
 use Rattle.design.specs.declared.line.Line.{Line}

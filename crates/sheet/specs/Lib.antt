@@ -1,3 +1,5 @@
+pub mod Lines
+pub mod Contents
 pub mod Calls
 pub mod Laid
 pub mod Settles

@@ -1,5 +1,5 @@
 //! The calls of a sheet at both sides of every limit, worked out apart.
-use design::line::Line;
+use sheet::line::Line;
 use sheet::sheet::Sheet;
 use std::test::Fail;
 use terms::entry::Entry;

@@ -1,6 +1,5 @@
-use Rattle.std.proofs.Common.{◌≡◌, get_or, ap, ◌∙◌}
+use Rattle.std.proofs.Common.{get_or, ap, ◌∙◌}
 use Rattle.register.proofs.Each.{each_at}
-use Rattle.design.specs.declared.line.Line.{Line}
 use Rattle.design.specs.Lines.{no_line, line_kept}
 use Rattle.sheet.specs.Sheets.{lines_of}
 use Rattle.sheet.proofs.sheet.Sheet.line_at.Goals as goal

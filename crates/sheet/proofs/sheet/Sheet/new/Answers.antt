@@ -1,4 +1,4 @@
-use Rattle.std.proofs.Common.{◌≡◌, min, [], length, replicate, refl, ap, ◌∙◌, arith}
+use Rattle.std.proofs.Common.{min, [], length, replicate, refl, ap, ◌∙◌, arith}
 use Rattle.register.specs.Keys.{each}
 use Rattle.register.proofs.Kept.{Holds, emptied}
 use Rattle.design.specs.Lines.{no_line, mark_of, line_kept}
