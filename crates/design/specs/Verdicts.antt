@@ -71,7 +71,7 @@ abbrev pub unfit : Setting → Hull → Entry → Bool
 unfit s h e = not (s.rules.fits h e)
 
 -- refused on a ground at the mark of a line, if there is such a line
-abbrev pub refused_by : {A : Type 0} → (ground : Ground) → Option Line → Result A Refusal → Result A Refusal
+abbrev pub refused_by : {A : Type 0} → Ground → Option Line → Result A Refusal → Result A Refusal
 refused_by g None r = r
 refused_by g (Some l) r = Err (refusal_of g (mark_of l))
 

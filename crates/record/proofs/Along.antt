@@ -1,5 +1,5 @@
 -- A reader goes along a record: one call more, and where it stops.
-use Rattle.std.proofs.Common.{◌≡◌, ℕ, ◌+◌, ◌≤◌, ◌⊎◌, List, [], ◌∷◌, ◌++◌, length, drop, Some, None, Ok, Err, Option, sym, refl, ap, ◌∙◌, subst, inl, inr, arith}
+use Rattle.std.proofs.Common.{◌≡◌, ℕ, ◌+◌, ◌≤◌, List, [], ◌∷◌, ◌++◌, length, drop, Some, None, Ok, Err, sym, refl, ap, ◌∙◌, subst, inl, inr, arith}
 use Rattle.std.proofs.lemmas.List.{length-drop}
 use Rattle.terms.specs.declared.refusal.Refusal.{Refusal}
 use Rattle.design.specs.Contents.{Contents}
@@ -10,7 +10,7 @@ use Rattle.record.specs.declared.placed.Stage.{Stage}
 use Rattle.record.specs.declared.placed.Stage.TheVariants.{BeforeHull, Body, Ended}
 use Rattle.record.specs.Spelling.{spelled, all_spelled, byte_of}
 use Rattle.record.specs.Reading.{InOrder, Told, ToldAnswer}
-use Rattle.record.specs.Obeying.{Ordered, stage_after, Accepted, Obeyed, Stops, Passed, Read, SoFar}
+use Rattle.record.specs.Obeying.{Ordered, stage_after, Accepted, Obeyed, Stops, Read, SoFar}
 use Rattle.record.proofs.Steps.{hull_open, body_open}
 
 pub spelled_push : (xs : List Call) (x : Call) (more : List ℕ) → all_spelled (xs ++ x ∷ []) more ≡ all_spelled xs (spelled x more)

@@ -3,7 +3,7 @@ use Rattle.std.proofs.Common.{◌≡◌, ℕ, ◌+◌, ◌*◌, ◌/◌, ◌%◌
 use Rattle.terms.specs.declared.entry.Entry.{Entry}
 use Rattle.sheet.specs.declared.call.Call.{Call}
 use Rattle.sheet.specs.declared.call.Call.TheVariants.{Hull, Enter, Amend, Strike, Lay}
-use Rattle.record.specs.Spelling.{spelled, entered, byte_of}
+use Rattle.record.specs.Spelling.{spelled, entered}
 use Rattle.record.proofs.Steps.{width}
 
 abbrev word : List ℕ → ℕ → ℕ

@@ -1,7 +1,6 @@
 -- What a record says is one thing: a reader's answer, and what reading makes of a sheet, follow from the bytes.
 use Rattle.std.proofs.Common.{◌≡◌, ℕ, ◌+◌, ◌⊎◌, List, [], ◌∷◌, length, get_or, drop, Some, None, Ok, Err, sym, refl, ap, ◌∙◌, subst, inl, inr, arith}
 use Rattle.terms.specs.declared.refusal.Refusal.{Refusal}
-use Rattle.terms.specs.declared.ground.Ground.{Ground}
 use Rattle.design.specs.Contents.{Contents}
 use Rattle.sheet.specs.declared.call.Call.{Call}
 use Rattle.sheet.specs.declared.call.Call.TheVariants.{Hull, Enter, Amend, Strike, Lay}

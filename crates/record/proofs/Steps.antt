@@ -1,15 +1,14 @@
 -- What a reader answers, from what its parts found.
-use Rattle.std.proofs.Common.{◌≡◌, ℕ, zero, suc, ◌+◌, ◌<◌, ◌≤◌, cond, eqb, ◌⊎◌, List, [], ◌∷◌, length, get_or, drop, Some, None, Ok, Err, Option, Result, sym, refl, ap, ◌∙◌, subst, inl, inr, arith}
+use Rattle.std.proofs.Common.{◌≡◌, ℕ, zero, suc, ◌+◌, ◌<◌, ◌≤◌, cond, eqb, ◌⊎◌, List, [], ◌∷◌, length, get_or, drop, Some, None, Ok, Err, Option, sym, refl, ap, ◌∙◌, subst, inl, inr, arith}
 use Rattle.std.proofs.lemmas.List.{drop-drop, drop_more, length-drop, nil_from_length}
-use Rattle.terms.specs.declared.entry.Entry.{Entry}
-use Rattle.terms.specs.declared.ground.Ground.TheVariants.{HullOutOfOrder, OperandsCutShort}
+use Rattle.terms.specs.declared.ground.Ground.TheVariants.{HullOutOfOrder}
 use Rattle.terms.specs.declared.refusal.Refusal.{Refusal}
 use Rattle.design.specs.Lines.{no_line}
 use Rattle.sheet.specs.declared.call.Call.{Call}
 use Rattle.sheet.specs.declared.call.Call.TheVariants.{Hull, Enter, Amend, Strike, Lay}
 use Rattle.record.specs.declared.placed.Stage.{Stage}
 use Rattle.record.specs.declared.placed.Stage.TheVariants.{BeforeHull, Body, Ended}
-use Rattle.record.specs.Spelling.{spelled, end, byte_of, width_of}
+use Rattle.record.specs.Spelling.{spelled, end, byte_of}
 use Rattle.record.specs.Reading.{Known, InOrder, Whole, Fault, Told, ToldAnswer, at_place}
 use Rattle.record.specs.Parts.{Fronts, Stepped}
 

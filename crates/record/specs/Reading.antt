@@ -1,5 +1,5 @@
 -- What a reader answers of a record, and what reading a record into a sheet makes of the sheet.
-use Rattle.std.specs.Prelude.{◌≡◌, ℕ, ◌+◌, ◌⊎◌, List, [], ◌∷◌, length, drop, Some, None, Ok, Err, Option, Result, ◌≢◌}
+use Rattle.std.specs.Prelude.{◌≡◌, ℕ, ◌+◌, ◌⊎◌, List, [], ◌∷◌, drop, Some, None, Ok, Err, Option, Result, ◌≢◌}
 use Rattle.terms.specs.declared.ground.Ground.{Ground}
 use Rattle.terms.specs.declared.ground.Ground.TheVariants.{CommandUnknown, HullOutOfOrder, OperandsCutShort, BytesAfterEnd, EndMissing}
 use Rattle.terms.specs.declared.refusal.Refusal.{Refusal}

@@ -5,11 +5,9 @@ use Rattle.terms.specs.declared.refusal.Refusal.{Refusal}
 use Rattle.design.specs.declared.line.Line.{Line}
 use Rattle.design.specs.Contents.{Contents, settled_at}
 use Rattle.design.specs.Lines.{scheduled_by, scheduled_as}
-use Rattle.design.specs.Schedules.{job, Least}
 use Rattle.design.specs.Settings.{Setting}
 use Rattle.design.specs.Verdicts.{ready_hull}
-use Rattle.sheet.specs.declared.call.Call.{Call}
-use Rattle.sheet.specs.Calls.{Answer, changes, Does}
+use Rattle.sheet.specs.Calls.{Answer, changes}
 use Rattle.sheet.specs.Settles.{SettlesOn}
 use Rattle.runs.specs.declared.step.Step.{Step}
 use Rattle.runs.specs.declared.step.Step.TheVariants.{Change, Settle}

@@ -1,12 +1,12 @@
 -- Lays, one after the other, at the sizes of the lines as they stood before the first.
-use Rattle.std.proofs.Common.{◌≡◌, ℕ, ◌+◌, ◌<◌, Bool, true, false, cond, eqb, List, [], ◌∷◌, ◌++◌, length, get_or, take, is_ok, Some, None, Ok, Err, Option, sym, refl, ap, ◌∙◌, subst, arith}
+use Rattle.std.proofs.Common.{◌≡◌, ℕ, ◌+◌, ◌<◌, cond, eqb, List, [], ◌∷◌, ◌++◌, length, get_or, take, is_ok, Some, None, Ok, Err, Option, sym, refl, ap, ◌∙◌, subst}
 use Rattle.std.proofs.lemmas.List.{take_more}
 use Rattle.register.specs.Keys.{place_of, further}
 use Rattle.register.proofs.Orders.{found}
 use Rattle.terms.specs.declared.entry.Entry.{Entry}
 use Rattle.design.specs.declared.line.Line.{Line}
 use Rattle.design.specs.Contents.{Contents}
-use Rattle.design.specs.Lines.{no_line, mark_of, line_of}
+use Rattle.design.specs.Lines.{mark_of}
 use Rattle.design.specs.Settings.{Setting, Sound}
 use Rattle.design.proofs.Places.{at_place, line_is}
 use Rattle.sheet.specs.declared.call.Call.TheVariants as call

@@ -1,6 +1,6 @@
 -- Laying lines of a settled sheet back at their scheduled sizes.
-use Rattle.std.proofs.Common.{◌≡◌, ℕ, zero, suc, ◌<◌, ◌≤◌, Bool, true, false, cond, eqb, leb, ◌⊎◌, List, [], ◌∷◌, map, length, get_or, is_some, is_ok, Some, None, Ok, Err, Option, Result, sym, refl, ap, ◌∙◌, subst, inl, inr, ⊎_elim, le_antisymm, arith}
-use Rattle.std.proofs.lemmas.List.{get_or_past, length-map}
+use Rattle.std.proofs.Common.{◌≡◌, ℕ, zero, suc, ◌<◌, ◌≤◌, Bool, true, false, cond, eqb, leb, ◌⊎◌, List, [], ◌∷◌, map, length, get_or, is_ok, Some, Ok, Err, Result, sym, refl, ap, ◌∙◌, subst, inl, inr, ⊎_elim, le_antisymm, arith}
+use Rattle.std.proofs.lemmas.List.{get_or_past}
 use Rattle.std.proofs.lemmas.Bool.{both_ways, cases_lt, le-leb}
 use Rattle.register.specs.Keys.{changed}
 use Rattle.terms.specs.declared.entry.Entry.{Entry}
@@ -9,24 +9,24 @@ use Rattle.terms.specs.declared.hull.Hull.{Hull}
 use Rattle.terms.specs.declared.refusal.Refusal.{Refusal}
 use Rattle.terms.specs.Questions.{◌else◌, first_no, refused_at}
 use Rattle.design.specs.declared.line.Line.{Line}
-use Rattle.design.specs.Contents.{Contents, new_sheet, unsettled, settled_at}
-use Rattle.design.specs.Lines.{no_line, mark_of, line_of, there_in, laid_as, unscheduled, scheduled_by, scheduled_as}
-use Rattle.design.specs.Schedules.{job, Schedule, Lawful, Least, NoneLawful}
+use Rattle.design.specs.Contents.{Contents, new_sheet, settled_at}
+use Rattle.design.specs.Lines.{no_line, mark_of, line_of, there_in, laid_as, unscheduled, scheduled_by}
+use Rattle.design.specs.Schedules.{job, Schedule, Least}
 use Rattle.design.specs.Settings.{Setting, Sound}
 use Rattle.design.specs.Verdicts.{ready_hull}
 use Rattle.least.proofs.Raising.{within}
 use Rattle.sheet.specs.declared.call.Call.{Call}
 use Rattle.sheet.specs.declared.call.Call.TheVariants as call
-use Rattle.sheet.specs.Calls.{Answer, answer, changes, Does}
-use Rattle.sheet.specs.Settles.{SettlesOn, Settles}
+use Rattle.sheet.specs.Calls.{Answer, answer, changes}
+use Rattle.sheet.specs.Settles.{SettlesOn}
 use Rattle.sheet.proofs.Clearing.{length_scheduled, scheduled_at}
 use Rattle.runs.specs.declared.step.Step.{Step}
 use Rattle.runs.specs.declared.step.Step.TheVariants.{Change, Settle}
-use Rattle.runs.specs.Runs.{Takes, Run}
-use Rattle.runs.specs.Laws.{sizes_of, SettledBy, ASettledSheetHasTheLeast, size_or_none, size_for, laying_back, AllThere, AllAccepted, AsBefore, LayingBackChangesNothing}
+use Rattle.runs.specs.Runs.{Run}
+use Rattle.runs.specs.Laws.{sizes_of, SettledBy, ASettledSheetHasTheLeast, size_or_none, size_for, laying_back, AllThere, AsBefore, LayingBackChangesNothing}
 use Rattle.runs.proofs.Entries.{entry_of, ready_same, there_same}
-use Rattle.runs.proofs.Alike.{Alike, least_same, least_more}
-use Rattle.runs.proofs.Settling.{never, same_hull, sizes_written, written}
+use Rattle.runs.proofs.Alike.{Alike, least_more}
+use Rattle.runs.proofs.Settling.{written}
 use Rattle.runs.proofs.Taking.{changes_open}
 
 abbrev Kept : Setting → Contents → Type 0

@@ -1,6 +1,6 @@
 -- A run, and one call more.
-use Rattle.std.proofs.Common.{◌≡◌, ℕ, ◌+◌, ◌<◌, List, [], ◌∷◌, ◌++◌, length, get_or, take, drop, set, sym, refl, ◌∙◌, subst, arith}
-use Rattle.std.proofs.lemmas.List.{take_more, take_more_set, drop-set-lt, drop-drop}
+use Rattle.std.proofs.Common.{◌≡◌, ℕ, ◌+◌, ◌<◌, List, [], ◌∷◌, ◌++◌, length, get_or, take, set, sym, refl, subst}
+use Rattle.std.proofs.lemmas.List.{take_more, take_more_set}
 use Rattle.design.specs.Contents.{Contents}
 use Rattle.design.specs.Settings.{Setting}
 use Rattle.sheet.specs.Calls.{Answer}

@@ -1,23 +1,21 @@
 -- What a settle answers and writes.
-use Rattle.std.proofs.Common.{◌≡◌, ℕ, zero, suc, ◌<◌, ◌≤◌, Bool, true, false, cond, List, [], ◌∷◌, map, length, get_or, Some, None, Ok, Err, Option, Result, sym, refl, ap, ◌∙◌, subst, arith}
-use Rattle.terms.specs.declared.ground.Ground.TheVariants.{HullMissing, NeighbourMissing, LineUnfit, NoLawfulSchedule}
+use Rattle.std.proofs.Common.{◌≡◌, ℕ, suc, ◌<◌, List, [], ◌∷◌, map, length, get_or, Some, None, Ok, Err, Option, Result, sym, refl, ap, ◌∙◌, subst, arith}
+use Rattle.terms.specs.declared.ground.Ground.TheVariants.{NeighbourMissing, LineUnfit}
 use Rattle.terms.specs.declared.hull.Hull.{Hull}
 use Rattle.terms.specs.declared.refusal.Refusal.{Refusal}
 use Rattle.terms.specs.Grounds.{number_of}
 use Rattle.design.specs.declared.line.Line.{Line}
 use Rattle.design.specs.Contents.{Contents, settled_at}
-use Rattle.design.specs.Lines.{no_line, scheduled_by, scheduled_as, first_with}
-use Rattle.design.specs.Schedules.{Job, job, Schedule, Lawful, Least, NoneLawful}
+use Rattle.design.specs.Lines.{no_line, first_with}
+use Rattle.design.specs.Schedules.{job, Schedule, Lawful, Least}
 use Rattle.design.specs.Settings.{Setting}
 use Rattle.design.specs.Verdicts.{names_missing, unfit, refused_by, ready_hull}
 use Rattle.sheet.specs.Calls.{Answer}
-use Rattle.sheet.specs.Settles.{none_lawful_at, SettlesOn, Settles}
+use Rattle.sheet.specs.Settles.{none_lawful_at, SettlesOn}
 use Rattle.sheet.proofs.Clearing.{scheduled_at}
-use Rattle.runs.specs.declared.step.Step.TheVariants.{Settle}
-use Rattle.runs.specs.Runs.{Takes, Reached}
-use Rattle.runs.specs.Laws.{sizes_of, LeastWritten, SettleWritesTheLeast, LaidMore, NoSmaller, LayingMoreLowersNothing}
+use Rattle.runs.specs.Laws.{sizes_of, LeastWritten, SettleWritesTheLeast, LaidMore, LayingMoreLowersNothing}
 use Rattle.runs.proofs.Entries.{entry_of, ready_same}
-use Rattle.runs.proofs.Alike.{Alike, lawful_less, least_same}
+use Rattle.runs.proofs.Alike.{lawful_less, least_same}
 
 pub never : (u : Unit {0}) (e : Refusal) → ◌≡◌ {A = Answer} (Ok u) (Err e) → ⊥
 never u e f = let z : ◌≡◌ {A = ℕ} 0 1 = cc in omega arith

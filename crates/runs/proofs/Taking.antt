@@ -1,5 +1,5 @@
 -- What a run puts on a sheet, from the calls alone.
-use Rattle.std.proofs.Common.{◌≡◌, ℕ, suc, ◌<◌, ◌≤◌, Bool, true, false, cond, not, eqb, ltb, leb, List, [], ◌∷◌, ◌++◌, map, length, get_or, is_ok, Ok, Err, Result, sym, refl, ap, ◌∙◌, subst, arith}
+use Rattle.std.proofs.Common.{◌≡◌, ℕ, suc, ◌<◌, Bool, true, false, cond, not, eqb, ltb, leb, List, [], ◌∷◌, ◌++◌, map, length, get_or, is_ok, Ok, Err, Result, sym, refl, ap, ◌∙◌, subst, arith}
 use lib.ListN.{length-map}
 use Rattle.std.proofs.lemmas.List.{get_or-map}
 use Rattle.std.proofs.lemmas.Bool.{both_ways}
@@ -9,19 +9,19 @@ use Rattle.terms.specs.declared.refusal.Refusal.{Refusal}
 use Rattle.terms.specs.declared.ground.Ground.TheVariants.{MarkZero, MarkTaken, MarkUnknown, SheetFull, SizeOverLimit}
 use Rattle.terms.specs.Questions.{◌else◌, first_no, refused_at, value_questions}
 use Rattle.design.specs.declared.line.Line.{Line}
-use Rattle.design.specs.Contents.{Contents, new_sheet, with_lines, unsettled, settled_at}
+use Rattle.design.specs.Contents.{Contents, new_sheet, with_lines, unsettled}
 use Rattle.design.specs.Lines.{no_line, mark_of, there_in, entered_as, amended_as, laid_as, unscheduled, scheduled_by}
-use Rattle.design.specs.Schedules.{job, Schedule, Lawful, NoneLawful}
+use Rattle.design.specs.Schedules.{job, Lawful}
 use Rattle.design.specs.Settings.{Setting}
 use Rattle.design.specs.Verdicts.{ready_hull}
 use Rattle.sheet.specs.declared.call.Call.{Call}
 use Rattle.sheet.specs.declared.call.Call.TheVariants as call
-use Rattle.sheet.specs.Calls.{Answer, answer, questions, place, changes, Does}
-use Rattle.sheet.specs.Settles.{none_lawful_at, SettlesOn, Settles}
+use Rattle.sheet.specs.Calls.{Answer, answer, changes, Does}
+use Rattle.sheet.specs.Settles.{SettlesOn}
 use Rattle.runs.specs.declared.step.Step.{Step}
 use Rattle.runs.specs.declared.step.Step.TheVariants.{Change, Settle}
-use Rattle.runs.specs.Runs.{Takes, Run}
-use Rattle.runs.specs.Laws.{drawn_by, drawn, SettleAnswer, Answered, AllAnswered, is_settle, settled_last, Taken, TakenFromTheCalls}
+use Rattle.runs.specs.Runs.{Run}
+use Rattle.runs.specs.Laws.{drawn_by, drawn, SettleAnswer, Answered, AllAnswered, is_settle, settled_last, TakenFromTheCalls}
 use Rattle.runs.proofs.Entries.{entry_of, ready_same, there_same}
 use Rattle.runs.proofs.Alike.{Alike, lawful_less}
 

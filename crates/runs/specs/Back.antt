@@ -1,5 +1,5 @@
 -- Parts of laying lines back at their scheduled sizes.
-use Rattle.std.specs.Prelude.{◌≡◌, ℕ, ◌<◌, List, length, Some, None, Ok, Err, Option, slice_index, slice_index_or}
+use Rattle.std.specs.Prelude.{◌≡◌, ℕ, ◌<◌, List, Some, None, Ok, Err, Option, slice_index, slice_index_or}
 use Rattle.design.specs.declared.line.Line.{Line}
 use Rattle.design.specs.Contents.{Contents}
 use Rattle.design.specs.Lines.{no_line}

@@ -5,7 +5,7 @@ use Rattle.terms.specs.declared.refusal.Refusal.{Refusal}
 use Rattle.design.specs.declared.line.Line.{Line}
 use Rattle.design.specs.Contents.{Contents, new_sheet, unsettled}
 use Rattle.design.specs.Lines.{no_line, line_of, there_in}
-use Rattle.design.specs.Schedules.{Job, job, Schedule, Lawful, Least, NoneLawful}
+use Rattle.design.specs.Schedules.{job, Schedule, Lawful, Least, NoneLawful}
 use Rattle.design.specs.Settings.{Setting, Sound}
 use Rattle.design.specs.Verdicts.{ready_hull}
 use Rattle.sheet.specs.declared.call.Call.TheVariants as call

@@ -1,4 +1,4 @@
-use Rattle.std.proofs.Common.{Ok, Err, ap, ◌∙◌, rules}
+use Rattle.std.proofs.Common.{Ok, ap, ◌∙◌, rules}
 use Rattle.sheet.specs.Sheets.{contents}
 use Rattle.record.proofs.Along.{faulty, finished, further-on, turned_down}
 use Rattle.record.proofs.Once.{read_once}

@@ -7,4 +7,4 @@ pub invariant_of-self : goal.invariant_of-self
 invariant_of-self c =
     let i = c.args.self.now.at in
     let xs = c.args.self.now.bytes.now in
-    (omega (arith, fronts_some c.args.width c.args.read c.in-Some.call (drop i xs) c.in-Some.is c.requires, length-drop i xs, c.args.self.now.within), tt)
+    omega (arith, fronts_some c.args.width c.args.read c.in-Some.call (drop i xs) c.in-Some.is c.requires, length-drop i xs, c.args.self.now.within)
