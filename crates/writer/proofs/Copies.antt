@@ -1,11 +1,11 @@
 -- A sheet is written and read back.
-use Rattle.std.proofs.Common.{◌≡◌, ℕ, ◌+◌, ◌-◌, Bool, true, false, cond, leb, List, ◌++◌, length, take, drop, is_some, is_ok, Some, None, Ok, Err, Option, Result, sym, refl, ap, ◌∙◌, subst, arith}
+use Rattle.std.proofs.Common.{◌≡◌, ℕ, ◌+◌, ◌-◌, Bool, true, false, cond, List, length, take, drop, is_some, is_ok, Some, None, Ok, Err, Option, Result, sym, refl, ap, ◌∙◌, subst, arith}
 use Rattle.std.proofs.lemmas.List.{take_at}
 use Rattle.terms.specs.declared.ground.Ground.{Ground}
 use Rattle.terms.specs.declared.ground.Ground.TheVariants.{HullMissing}
 use Rattle.terms.specs.declared.refusal.Refusal.{Refusal}
 use Rattle.terms.specs.Questions.{first_no}
-use Rattle.design.specs.Contents.{Contents, new_sheet}
+use Rattle.design.specs.Contents.{Contents}
 use Rattle.sheet.specs.Calls.{Answer}
 use Rattle.record.specs.Reading.{at_place}
 use Rattle.record.specs.Obeying.{Read}

@@ -1,8 +1,7 @@
 -- Bytes put one after the other over others.
-use Rattle.std.proofs.Common.{◌≡◌, ℕ, ◌+◌, ◌-◌, ◌*◌, ◌<◌, ◌≤◌, List, [], ◌∷◌, ◌++◌, length, get_or, take, drop, set, sym, refl, ap, ◌∙◌, append_assoc, arith}
+use Rattle.std.proofs.Common.{◌≡◌, ℕ, ◌+◌, ◌-◌, ◌<◌, ◌≤◌, List, [], ◌∷◌, ◌++◌, length, get_or, take, drop, set, sym, refl, ap, ◌∙◌, append_assoc, arith}
 use borrow.Rule.Slice.PartMut.{put_mid}
-use Rattle.std.specs.List.{flat_map}
-use Rattle.std.proofs.lemmas.List.{append-nil, length-append, length-drop, take_at, drop_at, drop-drop, drop_all, take_rest, take_more, drop_more, take-append-drop, take_all, set_split, flat_map_more, length-take-le}
+use Rattle.std.proofs.lemmas.List.{append-nil, length-append, length-drop, take_at, drop_at, drop-drop, drop_all, take_rest, take_more, take-append-drop, set_split, flat_map_more, length-take-le}
 use Rattle.terms.specs.declared.entry.Entry.{Entry}
 use Rattle.design.specs.declared.line.Line.{Line}
 use Rattle.design.specs.Lines.{mark_of}
