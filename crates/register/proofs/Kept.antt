@@ -1,7 +1,7 @@
 -- What each change of a register keeps: the elements in front in order, nothing behind them, and the room.
 use Rattle.std.proofs.Common.{◌≡◌, ℕ, ◌+◌, ◌-◌, ◌<◌, ◌≤◌, Bool, true, cond, ◌&&◌, ltb, leb, List, [], ◌∷◌, ◌++◌, length, get_or, take, drop, set, replicate, None, sym, refl, ap, ◌∙◌, subst, arith}
 use Rattle.std.specs.List.{remove}
-use Rattle.std.proofs.lemmas.List.{length-take-le, length-set, length-replicate, drop-set-lt}
+use Rattle.std.proofs.lemmas.List.{length-set, length-replicate, drop-set-lt}
 use Rattle.std.proofs.lemmas.Bool.{lt-ltb, le-leb, and_from}
 use Rattle.register.specs.Keys.{place_of, placed, climbs}
 use Rattle.register.proofs.Orders.{climbs-placed, climbs_removed, climbs-set}

@@ -259,9 +259,9 @@ fn short_memory_and_no_schedule(rt: HostRuntime) -> Result<(), Fail> {
     assert_eq!(rt; number(sheet.enter(entry(5))), ACCEPTED);
     assert_eq!(rt; number(sheet.enter(entry(4))), (27, 4));
     match sheet.scheduled_size(5) {
-        Ok(_) => Err(Fail::new("no schedule yet")),
-        Err(refusal) => check_eq((refusal.ground.number(), refusal.at), (41, 5)),
-    }?;
+        Ok(_) => return Err(Fail::new("no schedule yet")),
+        Err(refusal) => assert_eq!(rt; (refusal.ground.number(), refusal.at), (41, 5)),
+    }
     let mut none: [Line; 0] = [];
     let mut sheet = Sheet::new(&mut none);
     assert_eq!(rt; number(sheet.enter(entry(5))), (27, 5));

@@ -1,4 +1,4 @@
-use Rattle.std.proofs.Common.{◌≡◌, ◌+◌, length, drop}
+use Rattle.std.proofs.Common.{◌≡◌, drop}
 use Rattle.register.specs.Keys.{place_of, further}
 use Rattle.register.proofs.first_at.Given as goal
 

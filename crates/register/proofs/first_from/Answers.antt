@@ -1,4 +1,4 @@
-use Rattle.std.proofs.Common.{sym, ◌∙◌, arith, le-ltb, lt-ltb}
+use Rattle.std.proofs.Common.{sym, arith, le-ltb, lt-ltb}
 use Rattle.register.proofs.Laws.{from_found, from_passed, from_none}
 use Rattle.register.proofs.first_from.Goals as goal
 
