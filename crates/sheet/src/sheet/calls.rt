@@ -1,7 +1,7 @@
 //! The calls of a sheet.
 ghost use Rattle.std.specs.Prelude.{◌≡◌, min, length, Err};
 ghost use Rattle.terms.specs.Questions.{refusal_of};
-ghost use Rattle.sheet.specs.declared.call.Call.TheVariants as asked;
+ghost use Rattle.sheet.specs.declared.call.Call.TheVariants as call;
 ghost use Rattle.sheet.specs.Calls.{Does, scheduled_size};
 ghost use Rattle.design.specs.Contents.{new_sheet};
 ghost use Rattle.sheet.specs.Sheets.{contents, lines_of};
@@ -62,10 +62,10 @@ impl<'a> Sheet<'a> {
     }
 
     /// Carries out one call.
-    pub fn carry_out(&mut self, call: Call) -> Result<(), Refusal>
-        ensures { Does (contents self.old) call result (contents self.new) }
+    pub fn carry_out(&mut self, change: Call) -> Result<(), Refusal>
+        ensures { Does (contents self.old) change result (contents self.new) }
     {
-        match call {
+        match change {
             Call::Hull(hull) => self.set_hull(hull),
             Call::Enter(entry) => self.enter(entry),
             Call::Amend(entry) => self.amend(entry),
@@ -76,7 +76,7 @@ impl<'a> Sheet<'a> {
 
     /// Sets or replaces the hull.
     pub fn set_hull(&mut self, hull: Hull) -> Result<(), Refusal>
-        ensures { Does (contents self.old) (asked.Hull hull) result (contents self.new) }
+        ensures { Does (contents self.old) (call.Hull hull) result (contents self.new) }
     {
         if let Some(ground) = hull_fault(hull) {
             return refuse(ground, 0);
@@ -88,7 +88,7 @@ impl<'a> Sheet<'a> {
 
     /// Adds a line with nothing laid.
     pub fn enter(&mut self, entry: Entry) -> Result<(), Refusal>
-        ensures { Does (contents self.old) (asked.Enter entry) result (contents self.new) }
+        ensures { Does (contents self.old) (call.Enter entry) result (contents self.new) }
     {
         let mark = entry.mark;
         if mark == 0 {
@@ -114,7 +114,7 @@ impl<'a> Sheet<'a> {
 
     /// Replaces the entered values of a line, and leaves its laid size.
     pub fn amend(&mut self, entry: Entry) -> Result<(), Refusal>
-        ensures { Does (contents self.old) (asked.Amend entry) result (contents self.new) }
+        ensures { Does (contents self.old) (call.Amend entry) result (contents self.new) }
     {
         let mark = entry.mark;
         let Some(place) = self.find(mark) else {
@@ -138,7 +138,7 @@ impl<'a> Sheet<'a> {
 
     /// Removes a line; later lines move down, and the place left over is free again.
     pub fn strike(&mut self, mark: u16) -> Result<(), Refusal>
-        ensures { Does (contents self.old) (asked.Strike mark) result (contents self.new) }
+        ensures { Does (contents self.old) (call.Strike mark) result (contents self.new) }
     {
         let Some(place) = self.find(mark) else {
             return refuse(Ground::MarkUnknown, mark);
@@ -150,7 +150,7 @@ impl<'a> Sheet<'a> {
 
     /// Lays a size on a line, up or down; 0 takes it away.
     pub fn lay(&mut self, mark: u16, size: u16) -> Result<(), Refusal>
-        ensures { Does (contents self.old) (asked.Lay mark size) result (contents self.new) }
+        ensures { Does (contents self.old) (call.Lay mark size) result (contents self.new) }
     {
         let Some(place) = self.find(mark) else {
             return refuse(Ground::MarkUnknown, mark);
