@@ -1,11 +1,12 @@
 #!/usr/bin/env python3
 """Spells the repository's own definitions and lemmas as Rattle does: words in snake case, types in camel case.
 
-usage: python3 tools/respell.py      at the top of the repository, once, after the kit's own port script
+usage: python3 tools/respell.py [--all]      at the top of the repository, once, after the kit's own port script
 
 A dash stays in a lemma's name where it joins names of definitions, as in climbs-placed; everywhere else it becomes an underscore.
 Names that Rattle makes (the goals of Answers.antt, the members of Invariants.antt) keep their spelling, and so does all Rust.
-Lines 'together:' name a file in which two names would become one, and nothing is written then.
+Lines 'together:' name a file in which two names would become one, and nothing is written then; with --all it is, where
+the two are a definition and a Rust function, say.
 """
 
 import glob
