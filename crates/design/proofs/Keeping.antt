@@ -14,3 +14,6 @@ module _ {D : Type 0} {setting : D → Setting} {lenders : D → List ℕ} where
 
   pub same_hull : {old new : lent.Job D} → Kept setting lenders old new → new.hull ≡ old.hull
   same_hull kept = ap (λ (j : Job). j.hull) kept.job
+
+  pub same_lines : {old new : lent.Job D} → Kept setting lenders old new → new.lines.now ≡ old.lines.now
+  same_lines kept = ap (λ (j : Job). j.lines) kept.job

@@ -1,2 +1,2 @@
-pub mod Pairing
+pub mod Noting
 pub mod Raising
