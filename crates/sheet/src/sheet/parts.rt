@@ -10,6 +10,8 @@ ghost use Rattle.sheet.specs.Sheets.{contents, lines_of, Found, ClearedTo, Sized
 use super::Sheet;
 use design::line::Line;
 use register::Register;
+use terms::ground::Ground;
+use terms::refusal::Refusal;
 
 // Sets the scheduled sizes of the first lines to 0.
 fn clear_sizes(slots: &mut [Line], count: usize)
@@ -52,11 +54,12 @@ fn write_all(lines: &mut Register<'_, Line>, sizes: &[u16])
 }
 
 impl Sheet<'_> {
-    // The place of the line of a mark.
-    pub(super) fn find(&self, mark: u16) -> Option<usize>
+    // The place of the line of a mark. Refused at the mark where no line has it.
+    pub(super) fn find(&self, mark: u16) -> Result<usize, Refusal>
         ensures { Found mark (lines_of self.now) result }
     {
-        self.lines.place_of(mark)
+        let place = self.lines.place_of(mark);
+        place.ok_or(Ground::MarkUnknown.at(mark.into()))
     }
 
     pub(super) fn line_at(&self, place: usize) -> Line

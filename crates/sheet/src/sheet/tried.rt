@@ -8,7 +8,6 @@ ghost use Rattle.sheet.specs.Laid.{put_in, LaidIn, Laid};
 ghost use Rattle.sheet.specs.Sheets.{contents};
 
 use super::Sheet;
-use super::calls::LARGEST;
 use design::basis::Basis;
 use design::check::check_lines;
 use design::line::Line;
@@ -16,6 +15,7 @@ use design::verdict::Verdict;
 use register::Register;
 use terms::book::RuleBook;
 use terms::hull::Hull;
+use terms::limits::LARGEST_SIZE;
 use terms::refusal::Refusal;
 use terms::stock::Stock;
 use trial::{Key, Lines};
@@ -30,7 +30,7 @@ fn put_front(slots: &mut [Line], count: usize, place: usize, size: u16) -> u16
         return 0;
     }
     let old = slots[place].laid;
-    if size <= LARGEST {
+    if size <= LARGEST_SIZE {
         slots[place].laid = size;
     }
     old

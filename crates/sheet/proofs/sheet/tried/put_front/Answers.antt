@@ -12,14 +12,14 @@ returns-then-place-count c = record {
   laid = put_past c.args.slots.now c.args.count c.args.place c.args.size c.requires (omega arith);
 }
 
-pub returns-then-size-le-LARGEST : goal.returns-then-size-le-LARGEST
-returns-then-size-le-LARGEST c = record {
+pub returns-then-size-le-LARGEST_SIZE : goal.returns-then-size-le-LARGEST_SIZE
+returns-then-size-le-LARGEST_SIZE c = record {
   old = ap (λ (l : Line). l.laid) (sym (get_or-take c.args.count c.args.slots.now c.args.place no_line (omega arith)));
   laid = put_small c.args.slots.now c.args.count c.args.place c.args.size (omega arith) (le-leb _ _ (omega arith));
 }
 
-pub returns-else-size-le-LARGEST : goal.returns-else-size-le-LARGEST
-returns-else-size-le-LARGEST c = record {
+pub returns-else-size-le-LARGEST_SIZE : goal.returns-else-size-le-LARGEST_SIZE
+returns-else-size-le-LARGEST_SIZE c = record {
   old = ap (λ (l : Line). l.laid) (sym (get_or-take c.args.count c.args.slots.now c.args.place no_line (omega arith)));
   laid = put_large c.args.slots.now c.args.count c.args.place c.args.size (lt-leb _ _ (omega arith));
 }
