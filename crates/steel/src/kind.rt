@@ -1,7 +1,7 @@
 //! The members of a steel boat, and their numbers.
 ghost use Rattle.std.specs.Prelude.{◌≡◌};
 ghost use Rattle.clauses.specs.Kinds.{Named};
-ghost use Rattle.steel.specs.Kinds.{number_of};
+ghost use Rattle.steel.specs.Kinds.{number_of, Unnamed};
 
 use clauses::kind::UnknownKind;
 
@@ -32,7 +32,7 @@ impl From<Kind> for u8 {
 impl TryFrom<u8> for Kind {
     type Error = UnknownKind;
 
-    ghost try_from_gives = { Named number_of };
+    ghost try_from_gives = { Named number_of Unnamed };
 
     fn try_from(number: u8) -> Result<Kind, UnknownKind> {
         match number {

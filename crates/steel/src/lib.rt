@@ -25,7 +25,6 @@ fn is_proportioned(hull: Hull) -> bool
     2 * u32::from(hull.breadth) <= 9 * depth && u32::from(hull.length) <= 30 * depth
 }
 
-#[tactic(auto, using(crate::proofs::Numbers::unnamed))]
 impl Clauses for Steel {
     const NUMBER: u8 = 1;
 
