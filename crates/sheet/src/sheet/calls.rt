@@ -79,14 +79,11 @@ impl<'a> Sheet<'a> {
             return Err(Ground::MarkTaken.at(at));
         }
         entry.check_limits()?;
-        if !self.has_room() {
-            return Err(Ground::SheetFull.at(at));
-        }
         self.add(Line {
             entry,
             laid: 0,
             scheduled: 0,
-        });
+        })?;
         self.unsettle();
         Ok(())
     }
@@ -95,9 +92,8 @@ impl<'a> Sheet<'a> {
     pub fn amend(&mut self, entry: Entry) -> Result<(), Refusal>
         ensures { Does (contents self.old) (call.Amend entry) result (contents self.new) }
     {
-        let place = self.find(entry.mark)?;
+        let (place, line) = self.find(entry.mark)?;
         entry.check_limits()?;
-        let line = self.line_at(place);
         self.put(place, Line { entry, ..line });
         self.unsettle();
         Ok(())
@@ -107,7 +103,7 @@ impl<'a> Sheet<'a> {
     pub fn strike(&mut self, mark: u16) -> Result<(), Refusal>
         ensures { Does (contents self.old) (call.Strike mark) result (contents self.new) }
     {
-        let place = self.find(mark)?;
+        let (place, _) = self.find(mark)?;
         self.remove(place);
         self.unsettle();
         Ok(())
@@ -117,11 +113,10 @@ impl<'a> Sheet<'a> {
     pub fn lay(&mut self, mark: u16, size: u16) -> Result<(), Refusal>
         ensures { Does (contents self.old) (call.Lay mark size) result (contents self.new) }
     {
-        let place = self.find(mark)?;
+        let (place, line) = self.find(mark)?;
         if size > LARGEST_SIZE {
             return Err(Ground::SizeOverLimit.at(mark.into()));
         }
-        let line = self.line_at(place);
         self.put(place, Line { laid: size, ..line });
         self.unsettle();
         Ok(())
@@ -134,7 +129,7 @@ impl<'a> Sheet<'a> {
         if !self.settled {
             return Err(Ground::NotSettled.at(mark.into()));
         }
-        let place = self.find(mark)?;
-        Ok(self.line_at(place).scheduled)
+        let (_, line) = self.find(mark)?;
+        Ok(line.scheduled)
     }
 }

@@ -1,5 +1,5 @@
 use Rattle.std.proofs.Common.{◌≡◌, ◌≤◌, ℕ, List, length, None, Ok, Err, Option, Result, sym, refl, ap, ◌∙◌, subst, arith, rules}
-use Rattle.std.proofs.lemmas.List.{length-take-le}
+use Rattle.register.proofs.Same.{length-elements}
 use Rattle.terms.specs.declared.hull.Hull.{Hull}
 use Rattle.terms.specs.declared.refusal.Refusal.{Refusal}
 use Rattle.design.specs.declared.line.Line.{Line}
@@ -28,5 +28,5 @@ pub returns-in_err-sizes-clause-settles : goal.returns-in_err-sizes-clause-settl
 returns-in_err-sizes-clause-settles g c =
     let t = c.args.self.now in
     refused (g.D.DesignBasis.setting c.args.basis.now) _ (contents t) c.hull.result c.lines.result.now c.lines-2.result.now c.ready_hull.result c.in_ok-hull.hull c.in_ok-hull.was c.ready_hull.ensures.value
-    c.hull.ensures c.lines.ensures c.lines-2.ensures c.ready_hull.ensures.same (let f = t.fits in let m = t.small in omega (arith, length-take-le t.lines.count t.lines.slots.now t.fits)) c.least_schedule-found.result c.least_schedule-found.ensures.least c.in_err-sizes.ensures.ok_part
+    c.hull.ensures c.lines.ensures c.lines-2.ensures c.ready_hull.ensures.same (omega (arith, length-elements t.lines, t.lines.fits, t.small)) c.least_schedule-found.result c.least_schedule-found.ensures.least c.in_err-sizes.ensures.ok_part
     c.from_residual-in_err-sizes.result (search rules)
