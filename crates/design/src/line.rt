@@ -7,7 +7,7 @@ ghost use Rattle.design.specs.Schedules.{naming, touching};
 use register::Keyed;
 use terms::entry::Entry;
 
-/// One plate or one stiffener: its entered values, its laid size (what is on the drawing already, 0 for nothing) and its scheduled size (0 for none).
+/// One plate or one stiffener, in memory that its owner reads, so that numbers say what is missing: its entered values, its laid size (what is on the drawing already, 0 for nothing) and its scheduled size (0 for none).
 #[derive(Clone, Copy, Default)]
 pub struct Line {
     pub entry: Entry,

@@ -30,7 +30,7 @@ fn scheduled_sizes(lines: &[Line]) -> [u16; MOST_LINES]
     sizes
 }
 
-// The size at a place, 0 for none.
+// The size at a place, 0 for none: a number, since a lay on a mark that is not there is refused whatever the size.
 fn size_at_place(sizes: &[u16], place: Option<usize>) -> u16
     ensures { result ≡ size_at sizes.now place }
 {
@@ -75,6 +75,7 @@ fn settle_back<D: DesignBasis>(
     laid.and(settled)
 }
 
+// Book and stocks come one by one, so that of each it is promised, by its name, that it means the same after.
 /// Lays the lines of these marks back at the sizes that the sheet has scheduled for them, one after the other, and settles again by the rule book and the stocks.
 /// Answers the first refusal among the calls. A sheet that the same book and stocks have settled comes out as it was, with those lines laid.
 pub fn lay_back<B: RuleBook, P: Stock, S: Stock>(

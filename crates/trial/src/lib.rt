@@ -39,7 +39,8 @@ pub trait Lines {
     fn place_of(&self, mark: u16) -> Option<usize>
         ensures { result ≡ place_of mark_of mark (contents self.now).lines };
 
-    /// Lays a size at a place, and answers what lay there. A place past the end, or a size above 60,000, changes nothing.
+    /// Lays a size at a place, and answers what lay there. A place past the end, or a size above 60,000, changes nothing, so that it asks
+    /// nothing of a trial.
     fn put_at(&mut self, _: Key, place: usize, size: u16) -> u16
         ensures contents { contents self.new ≡ with_lines (contents self.old) (lay_at (contents self.old).lines place size) }
         ensures laid { laid self.old place size self.new }
@@ -119,6 +120,7 @@ impl<'t, S: Lines> Trial<'t, S> {
         self.lines.lines()
     }
 
+    // Book and stocks come one by one, so that of each it is promised, by its name, that it means the same after.
     /// Checks the design as it stands under the trial.
     pub fn check<B: RuleBook, P: Stock, Q: Stock>(
         &self,

@@ -1,4 +1,6 @@
 //! Trials on a sheet: what a check would say with another size on one line. The sheet is as before, on whatever way a trial ends.
+//!
+//! Book and stocks come one by one in each call, so that of each it is promised, by its name, that it means the same after.
 #![tactic(auto)]
 
 ghost use Rattle.std.specs.Prelude.{◌≡◌};

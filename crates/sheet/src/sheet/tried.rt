@@ -48,6 +48,7 @@ impl<'a> Lines for Sheet<'a> {
 }
 
 impl Sheet<'_> {
+    // Book and stocks come one by one, so that of each it is promised, by its name, that it means the same after.
     /// Reads the laid sizes as a design, by a rule book and two stocks of any makes: it passes exactly when they are a lawful schedule, and
     /// else the first failure is named, lines and neighbours by rising mark.
     pub fn check<B: RuleBook, P: Stock, S: Stock>(
