@@ -8,7 +8,8 @@ use terms::entry::Entry;
 use terms::hull::Hull;
 use terms::stock::Stock;
 
-/// What lines are designed by: a rule book, and for each line the stock that it takes its size from. No question changes it.
+/// What lines are designed by: a rule book, and for each line the stock that it takes its size from. No question changes it,
+/// which each says for itself, since a trait has no other place for it.
 pub trait DesignBasis {
     ghost setting: { Self → Setting };
 

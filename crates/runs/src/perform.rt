@@ -38,12 +38,13 @@ fn perform_each<D: DesignBasis>(
     ensures lent { D.lenders basis.new ≡ D.lenders basis.old }
 {
     let count = steps.len().min(answers.len());
-    for i in 0..count {
-        answers[i] = perform(sheet, basis, steps[i]);
+    for (i, step) in steps[..count].iter().enumerate() {
+        answers[i] = perform(sheet, basis, *step);
     }
     count
 }
 
+// Book and stocks come one by one, so that of each it is promised, by its name, that it means the same after.
 /// Carries out calls in order by one rule book and two stocks, as many as there is room for answers, writes each answer, and says how many there were.
 pub fn perform_all<B: RuleBook, P: Stock, S: Stock>(
     sheet: &mut Sheet<'_>,

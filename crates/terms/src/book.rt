@@ -1,5 +1,5 @@
 //! What is asked of a rule book.
-ghost use Rattle.std.specs.Prelude.{◌≡◌};
+ghost use Rattle.std.specs.Prelude.{◌≡◌, ℕ};
 ghost use Rattle.terms.specs.Rules.{Rules, Law};
 
 use crate::entry::Entry;
@@ -9,6 +9,8 @@ use crate::hull::Hull;
 pub trait RuleBook {
     /// the number by which a user chooses the book
     const NUMBER: u8;
+
+    ghost NUMBER: { ℕ };
 
     ghost meaning: { Self → Rules };
 

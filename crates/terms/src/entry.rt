@@ -7,11 +7,11 @@ ghost use Rattle.terms.specs.Questions.{names};
 pub struct Entry {
     /// the line's own number, above 0
     pub mark: u16,
-    /// which member it is; each rule book names its own kinds
+    /// which member it is; a number, since each rule book names its own kinds
     pub kind: u8,
     /// where it stands: 0 elsewhere, 1 in the engine room, 2 at the engine seat; each rule book reads it in its own way
     pub place: u8,
-    /// the marks of two neighbours, 0 for none
+    /// the marks of two neighbours, 0 for none: a number, since it is spelled as one and refused by its value
     pub near: u16,
     pub far: u16,
     /// stiffener spacing, or a panel's short edge, s, in millimetres

@@ -1,4 +1,6 @@
 //! Trials on a sheet: what a check would say with another size on one line. The sheet is as before, on whatever way a trial ends.
+//!
+//! Book and stocks come one by one in each call, so that of each it is promised, by its name, that it means the same after.
 #![tactic(auto)]
 
 ghost use Rattle.std.specs.Prelude.{◌≡◌};
@@ -33,7 +35,7 @@ pub fn verdict_with<L: Lines, B: RuleBook, P: Stock, S: Stock>(
     trial.check(book, plates, stiffeners)
 }
 
-/// The same on a sheet, which is exactly what it was.
+/// The same on a sheet, which is exactly what it was. A function of its own, so that the promise stands on a call that takes a sheet.
 pub fn sheet_verdict_with<B: RuleBook, P: Stock, S: Stock>(
     sheet: &mut Sheet<'_>,
     book: &mut B,
@@ -68,10 +70,8 @@ pub fn passes_with<L: Lines, B: RuleBook, P: Stock, S: Stock>(
 {
     lines.may_try(mark, size)?;
     let trial = lines.trial(mark, size);
-    match trial.check(book, plates, stiffeners)? {
-        Verdict::Passes => Ok(true),
-        Verdict::Fails(_) => Ok(false),
-    }
+    let verdict = trial.check(book, plates, stiffeners)?;
+    Ok(verdict.is_ok())
 }
 
 /// The first of some sizes for the line of the mark with which the design passes; refused where a size before it could not be laid, or the

@@ -21,16 +21,13 @@ impl Sheet<'_> {
         ensures lent { D.lenders basis.new ≡ D.lenders basis.old }
     {
         let hull = ready_hull(basis, self.hull(), self.lines())?;
-        let Some(sizes) = least_schedule(basis, hull, self.lines()) else {
-            return Err(Refusal {
-                ground: Ground::NoLawfulSchedule,
-                at: 0,
-            });
-        };
+        let found = least_schedule(basis, hull, self.lines());
+        let sizes = found.ok_or(Ground::NoLawfulSchedule.at(0))?;
         self.write(&sizes);
         Ok(())
     }
 
+    // Book and stocks come one by one, so that of each it is promised, by its name, that it means the same after.
     /// Writes the least lawful schedule, by a rule book and two stocks of any makes, as the scheduled sizes, and makes the sheet settled.
     pub fn settle<B: RuleBook, P: Stock, S: Stock>(
         &mut self,
