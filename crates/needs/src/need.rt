@@ -1,6 +1,6 @@
 //! What one member needs by itself, from any rule book and two stocks.
 ghost use Rattle.std.specs.Prelude.{◌≡◌, Some};
-ghost use Rattle.terms.specs.Questions.{first_no};
+ghost use Rattle.terms.specs.Questions.{first_no, refused_at};
 ghost use Rattle.needs.specs.Shown.{need_text, size_text};
 ghost use Rattle.needs.specs.Needs.{Needs, entry_questions};
 
@@ -10,7 +10,7 @@ use terms::entry::Entry;
 use terms::ground::Ground;
 use terms::hull::Hull;
 use terms::hundredths::Hundredths;
-use terms::limits::value_fault;
+use terms::limits::LARGEST_SIZE;
 use terms::refusal::Refusal;
 use terms::stock::Stock;
 
@@ -22,7 +22,7 @@ pub struct Need {
     pub order: Option<u16>,
 }
 
-// A size that ended at 60,001 is known only to be above the largest.
+// A size that ended just above the largest is known only to be above it.
 #[derive(Clone, Copy)]
 struct OwnSize(u16);
 
@@ -30,11 +30,10 @@ impl fmt::Display for OwnSize {
     ghost output = { λ n. Some (size_text n.0) };
 
     fn fmt<W: fmt::Write>(&self, f: &mut fmt::Formatter<W>) -> fmt::Result {
-        if self.0 > 60_000 {
-            write!(f, "above 600.00")
+        if self.0 > LARGEST_SIZE {
+            f.write_str("above 600.00")
         } else {
-            let size = Hundredths(self.0);
-            write!(f, "{size}")
+            write!(f, "{}", Hundredths(self.0))
         }
     }
 }
@@ -55,15 +54,14 @@ impl fmt::Display for Need {
     }
 }
 
-// The first ground on which a member is refused before a book is asked.
-fn entry_fault(line: Entry) -> Option<Ground>
-    ensures { result ≡ first_no (entry_questions line) }
+// Refused at its mark where a member is before a book is asked.
+fn check_entered(line: Entry) -> Result<(), Refusal>
+    ensures { result ≡ refused_at line.mark (first_no (entry_questions line)) }
 {
     if line.mark == 0 {
-        Some(Ground::MarkZero)
-    } else {
-        value_fault(line)
+        return Err(Ground::MarkZero.at(0));
     }
+    line.check_limits()
 }
 
 /// What a member needs by itself. Refused at its mark where an entered value is, or where the book has no rule for it.
@@ -79,16 +77,9 @@ pub fn needed<B: RuleBook, P: Stock, S: Stock>(
     ensures plates { P.Stock.members plates.new ≡ P.Stock.members plates.old }
     ensures stiffeners { S.Stock.members stiffeners.new ≡ S.Stock.members stiffeners.old }
 {
-    let mark = line.mark;
-    let at = mark as usize;
-    if let Some(ground) = entry_fault(line) {
-        return Err(Refusal { ground, at });
-    }
+    check_entered(line)?;
     if !book.fits(hull, line) {
-        return Err(Refusal {
-            ground: Ground::LineUnfit,
-            at,
-        });
+        return Err(Ground::LineUnfit.at(usize::from(line.mark)));
     }
     let own = book.own_size(hull, line);
     let order = if book.is_plate(hull, line) {
@@ -96,5 +87,9 @@ pub fn needed<B: RuleBook, P: Stock, S: Stock>(
     } else {
         stiffeners.at_least(own)
     };
-    Ok(Need { mark, own, order })
+    Ok(Need {
+        mark: line.mark,
+        own,
+        order,
+    })
 }

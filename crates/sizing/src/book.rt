@@ -1,11 +1,11 @@
 //! The rule books by their numbers.
-ghost use Rattle.std.specs.Prelude.{◌≡◌, MatchResult};
+ghost use Rattle.std.specs.Prelude.{◌≡◌};
 ghost use Rattle.sizing.specs.Books.{numbered};
 
 use aluminium::Aluminium;
+use clauses::book::Clauses;
 use plastic::Plastic;
 use steel::Steel;
-use terms::book::RuleBook;
 use terms::ground::Ground;
 use terms::refusal::Refusal;
 
@@ -17,22 +17,18 @@ pub enum Book {
     Aluminium,
 }
 
-impl Book {
-    /// The book of a number; refused where there is none.
-    pub fn of(number: u8) -> Result<Book, Refusal>
-        ensures { result ≡ numbered number }
-    {
-        if number == Steel::NUMBER {
-            Ok(Book::Steel)
-        } else if number == Plastic::NUMBER {
-            Ok(Book::Plastic)
-        } else if number == Aluminium::NUMBER {
-            Ok(Book::Aluminium)
-        } else {
-            Err(Refusal {
-                ground: Ground::BookUnknown,
-                at: 0,
-            })
+/// The book of a number; refused where there is none.
+impl TryFrom<u8> for Book {
+    type Error = Refusal;
+
+    ghost try_from_gives = { λ number book. book ≡ numbered number };
+
+    fn try_from(number: u8) -> Result<Book, Refusal> {
+        match number {
+            Steel::NUMBER => Ok(Book::Steel),
+            Plastic::NUMBER => Ok(Book::Plastic),
+            Aluminium::NUMBER => Ok(Book::Aluminium),
+            _ => Err(Ground::BookUnknown.at(0)),
         }
     }
 }

@@ -2,5 +2,6 @@
 #![tactic(auto)]
 
 pub mod book;
+pub mod fault;
 pub mod given;
 pub mod reply;

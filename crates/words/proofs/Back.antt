@@ -1,24 +1,22 @@
 -- A statement that is spelled is read back.
-use Rattle.std.proofs.Common.{◌≡◌, ℕ, ◌^◌, ◌<◌, ◌≤◌, Bool, true, false, ◌&&◌, eqb, leb, List, [], ◌∷◌, ◌++◌, map, length, get_or, Some, Ok, decimal, sym, refl, ap, ◌∙◌, arith, lit<, rules}
+use Rattle.std.proofs.Common.{◌≡◌, ℕ, ◌^◌, ◌<◌, ◌≤◌, true, false, eqb, leb, List, [], ◌∷◌, ◌++◌, map, length, get_or, Some, Ok, decimal, sym, refl, ap, ◌∙◌, arith, lit<}
 use Rattle.std.specs.Char.{is_ascii_digit}
 use Rattle.std.specs.Option.{option_map, ok_or}
 use Rattle.std.specs.Str.{all_ascii_digits}
 use Rattle.std.proofs.lemmas.Fmt.{decimal_nonempty, digits_decimal, digits_value-decimal}
 use Rattle.std.proofs.lemmas.List.{append_assoc, append-nil}
-use Rattle.std.proofs.lemmas.Str.Parse.{IsNumeralModel, numerals_by_fold}
 use Rattle.std.proofs.lemmas.Bool.{and_parts, and_from, or_from, cond-true, cond-false, le-leb, leb-true, lt-ltb, ne_eqb}
 use Rattle.words.specs.declared.form.Form.{Form}
 use Rattle.words.specs.declared.form.Form.TheVariants as form
 use Rattle.words.specs.declared.statement.Statement.{Statement}
 use Rattle.words.specs.declared.statement.Statement.TheVariants.{Nothing, Book, Plates, Stiffeners, Enter}
 use Rattle.words.specs.declared.statement.Statement.TheVariants as statement
+use Rattle.words.proofs.Bounds.{lows}
+use Rattle.words.proofs.Digits.{numeral}
 use Rattle.words.specs.Numbers.{value_after, number_of, before, numbers_of}
 use Rattle.words.specs.Spelled.{AtMost, InFields, ReadsBack, first_word, its_numbers, its_limits, spelled_numbers, spelled}
 use Rattle.words.specs.Statements.{wide, series_of, hull_of, entry_of, by_words, statement_of}
 use Rattle.words.specs.Words.{blank, uncommented, ended, words_after, words_of}
-
-own : IsNumeralModel (λ ds. all_ascii_digits ds ≡ true) (value_after 0)
-own = numerals_by_fold _ (search rules) value_after (search rules)
 
 -- a digit is neither a blank nor the beginning of a comment
 digit_blank : (c : ℕ) → is_ascii_digit c ≡ true → blank c ≡ false
@@ -51,7 +49,7 @@ Low (n ∷ ns) = (n < 2 ^ 64) × Low ns
 uncommented_numbers : (ns : List ℕ) → Low ns → uncommented (spelled_numbers ns) ≡ spelled_numbers ns
 uncommented_numbers [] low = refl
 uncommented_numbers (n ∷ ns) low =
-    ap (λ l. 32 ∷ l) (uncommented_digits (decimal n) (spelled_numbers ns) (digits_decimal own n low.0) ∙ ap (λ l. decimal n ++ l) (uncommented_numbers ns low.1))
+    ap (λ l. 32 ∷ l) (uncommented_digits (decimal n) (spelled_numbers ns) (digits_decimal numeral n low.0) ∙ ap (λ l. decimal n ++ l) (uncommented_numbers ns low.1))
 
 ended_some : (word : List ℕ) (words : List (List ℕ)) → 0 < length word → ended word words ≡ word ∷ words
 ended_some [] words some = absurd (omega arith)
@@ -60,17 +58,12 @@ ended_some (c ∷ cs) words some = refl
 words_numbers : (word : List ℕ) (ns : List ℕ) → 0 < length word → Low ns → words_after word (spelled_numbers ns) ≡ word ∷ map decimal ns
 words_numbers word [] some low = ended_some word [] some
 words_numbers word (n ∷ ns) some low =
-    ended_some word _ some ∙ ap (λ ws. word ∷ ws) (words_digits [] (decimal n) (spelled_numbers ns) (digits_decimal own n low.0) ∙ words_numbers (decimal n) ns (decimal_nonempty n low.0) low.1)
+    ended_some word _ some ∙ ap (λ ws. word ∷ ws) (words_digits [] (decimal n) (spelled_numbers ns) (digits_decimal numeral n low.0) ∙ words_numbers (decimal n) ns (decimal_nonempty n low.0) low.1)
 
 number_back : (limit n : ℕ) → n ≤ limit → n < 2 ^ 64 → number_of limit (decimal n) ≡ Some n
 number_back limit n most low =
-    let is = digits_value-decimal own n low in
-    cond-true _ _ _ (and_from _ _ (lt-ltb 0 (length (decimal n)) (decimal_nonempty n low)) (and_from _ _ (digits_decimal own n low) (le-leb (value_after 0 (decimal n)) limit (omega arith)))) ∙ ap Some is
-
--- no limit is above the greatest of all
-abbrev lows : List ℕ → Bool
-lows [] = true
-lows (limit ∷ limits) = leb limit wide && lows limits
+    let is = digits_value-decimal numeral n low in
+    cond-true _ _ _ (and_from _ _ (lt-ltb 0 (length (decimal n)) (decimal_nonempty n low)) (and_from _ _ (digits_decimal numeral n low) (le-leb (value_after 0 (decimal n)) limit (omega arith)))) ∙ ap Some is
 
 module _ (limit n : ℕ) (limits : List ℕ) (most : n ≤ limit) (low : lows (limit ∷ limits) ≡ true) where
   first_low : n < 2 ^ 64

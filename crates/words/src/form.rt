@@ -16,46 +16,34 @@ pub enum Form {
     Enter,
 }
 
-impl Form {
-    /// The form that a first word begins.
-    pub fn of(word: &[u8]) -> Form
-        ensures { result ≡ form_of word.now }
-    {
-        if word == b"book".as_slice() {
-            Form::Book
-        } else if word == b"plates".as_slice() {
-            Form::Plates
-        } else if word == b"stiffeners".as_slice() {
-            Form::Stiffeners
-        } else if word == b"hull".as_slice() {
-            Form::Hull
-        } else if word == b"enter".as_slice() {
-            Form::Enter
-        } else {
-            Form::Any
+/// The form that a first word begins.
+impl From<&[u8]> for Form {
+    ghost from_gives = { λ word form. form ≡ form_of word.now };
+
+    fn from(word: &[u8]) -> Form {
+        match word {
+            b"book" => Form::Book,
+            b"plates" => Form::Plates,
+            b"stiffeners" => Form::Stiffeners,
+            b"hull" => Form::Hull,
+            b"enter" => Form::Enter,
+            _ => Form::Any,
         }
     }
+}
 
-    /// The words of the form, in their order.
-    fn text(self) -> &'static str
-        ensures { result.now ≡ expected self }
-    {
-        match self {
+/// The words of the form, in their order.
+impl fmt::Display for Form {
+    ghost output = { λ form. Some (expected form) };
+
+    fn fmt<W: fmt::Write>(&self, f: &mut fmt::Formatter<W>) -> fmt::Result {
+        f.write_str(match self {
             Form::Any => "book, plates, stiffeners, hull or enter",
             Form::Book => "book NUMBER",
             Form::Plates => "plates FIRST STEP COUNT",
             Form::Stiffeners => "stiffeners FIRST STEP COUNT",
             Form::Hull => "hull L B D d WATER",
             Form::Enter => "enter MARK KIND PLACE NEIGHBOUR NEIGHBOUR s l P z STRENGTH AREA",
-        }
-    }
-}
-
-impl fmt::Display for Form {
-    ghost output = { λ form. Some (expected form) };
-
-    fn fmt<W: fmt::Write>(&self, f: &mut fmt::Formatter<W>) -> fmt::Result {
-        let text = self.text();
-        write!(f, "{text}")
+        })
     }
 }

@@ -12,12 +12,11 @@
 //! and each number is one or more digits.
 #![tactic(auto)]
 
-ghost use Rattle.std.specs.Prelude.{◌≡◌};
+ghost use Rattle.std.specs.Prelude.{◌≡◌, ◌≤◌, SomeIff};
 ghost use Rattle.std.specs.Option.{option_map};
 ghost use Rattle.words.specs.Numbers.{numbers_of};
 ghost use Rattle.words.specs.Spelled.{ReadsBack};
-ghost use Rattle.words.specs.Statements.{series_of, series_limits, statement_by, statement_of};
-ghost use Rattle.words.specs.Words.{words_of};
+ghost use Rattle.words.specs.Statements.{narrow, series_of, hull_of, entry_of, series_limits, hull_limits, entry_limits, statement_by, statement_of};
 
 pub mod form;
 mod numbers;
@@ -31,90 +30,77 @@ use series::Series;
 use statement::Statement;
 use terms::entry::Entry;
 use terms::hull::Hull;
-use text::{next_word, without_comment};
+use text::{Words, without_comment};
 
-/// The greatest number of a `u8` field.
-const U8: u16 = u8::MAX as u16;
-
-/// The greatest number of a `u16` field.
-const U16: u16 = u16::MAX;
-
-fn read_book(text: &[u8]) -> Option<Statement>
-    ensures { result ≡ statement_by Form.Book (words_of text.now) }
+/// A number as one of a narrow field.
+fn narrowed(number: u16) -> Option<u8>
+    ensures { SomeIff result (number ≤ narrow) number }
 {
-    let [number] = numbers(text, [U8])?;
-    Some(Statement::Book(number as u8))
+    u8::try_from(number).ok()
 }
 
-fn read_series(text: &[u8]) -> Option<Series>
-    ensures { result ≡ option_map series_of (numbers_of series_limits (words_of text.now)) }
+fn read_book(words: Words<'_>) -> Option<u8>
+    ensures { option_map Statement.Book result ≡ statement_by Form.Book words.entry }
 {
-    let [first, step, count] = numbers(text, [U16, U16, U16])?;
+    let [number] = numbers::<1>(words)?;
+    narrowed(number)
+}
+
+fn read_series(words: Words<'_>) -> Option<Series>
+    ensures { result ≡ option_map series_of (numbers_of series_limits words.entry) }
+{
+    let [first, step, count] = numbers::<3>(words)?;
     Some(Series { first, step, count })
 }
 
-fn read_plates(text: &[u8]) -> Option<Statement>
-    ensures { result ≡ statement_by Form.Plates (words_of text.now) }
+fn read_hull(words: Words<'_>) -> Option<Hull>
+    ensures { result ≡ option_map hull_of (numbers_of hull_limits words.entry) }
 {
-    Some(Statement::Plates(read_series(text)?))
-}
-
-fn read_stiffeners(text: &[u8]) -> Option<Statement>
-    ensures { result ≡ statement_by Form.Stiffeners (words_of text.now) }
-{
-    Some(Statement::Stiffeners(read_series(text)?))
-}
-
-fn read_hull(text: &[u8]) -> Option<Statement>
-    ensures { result ≡ statement_by Form.Hull (words_of text.now) }
-{
-    let [length, breadth, depth, draught, water] = numbers(text, [U16, U16, U16, U16, U8])?;
-    Some(Statement::Hull(Hull {
+    let [length, breadth, depth, draught, water] = numbers::<5>(words)?;
+    Some(Hull {
         length,
         breadth,
         depth,
         draught,
-        water: water as u8,
-    }))
+        water: narrowed(water)?,
+    })
 }
 
-fn read_entry(text: &[u8]) -> Option<Statement>
-    ensures { result ≡ statement_by Form.Enter (words_of text.now) }
+fn read_entry(words: Words<'_>) -> Option<Entry>
+    ensures { result ≡ option_map entry_of (numbers_of entry_limits words.entry) }
 {
-    let [mark, kind, place, near, far, s, l, p, z, strength, area] = numbers(
-        text,
-        [U16, U8, U8, U16, U16, U16, U16, U8, U16, U16, U16],
-    )?;
-    Some(Statement::Enter(Entry {
+    let [mark, kind, place, near, far, s, l, p, z, strength, area] = numbers::<11>(words)?;
+    Some(Entry {
         mark,
-        kind: kind as u8,
-        place: place as u8,
+        kind: narrowed(kind)?,
+        place: narrowed(place)?,
         near,
         far,
         spacing: s,
         span: l,
-        pressure: p as u8,
+        pressure: narrowed(p)?,
         height: z,
         strength,
         area,
-    }))
+    })
 }
 
 /// What a line says, or the form of statement that was expected of it.
 pub fn read_statement(line: &[u8]) -> Result<Statement, Form>
     ensures { result ≡ statement_of line.now }
 {
-    let Some((word, rest)) = next_word(without_comment(line)) else {
+    let mut words = Words::new(without_comment(line));
+    let Some(word) = words.next() else {
         return Ok(Statement::Nothing);
     };
-    let form = Form::of(word);
+    let form = Form::from(word);
     let statement = match form {
         Form::Any => None,
-        Form::Book => read_book(rest),
-        Form::Plates => read_plates(rest),
-        Form::Stiffeners => read_stiffeners(rest),
-        Form::Hull => read_hull(rest),
-        Form::Enter => read_entry(rest),
+        Form::Book => read_book(words).map(Statement::Book),
+        Form::Plates => read_series(words).map(Statement::Plates),
+        Form::Stiffeners => read_series(words).map(Statement::Stiffeners),
+        Form::Hull => read_hull(words).map(Statement::Hull),
+        Form::Enter => read_entry(words).map(Statement::Enter),
     };
     statement.ok_or(form)
 }

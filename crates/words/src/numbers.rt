@@ -1,44 +1,36 @@
 //! Words read as numbers.
-ghost use Rattle.std.specs.Prelude.{◌≡◌};
-ghost use Rattle.words.specs.Words.{words_of};
+ghost use Rattle.std.specs.Prelude.{◌≡◌, true, false, replicate, MatchOption};
+ghost use Rattle.std.specs.Str.{all_ascii_digits};
 ghost use Rattle.words.specs.Numbers.{number_of, numbers_of};
+ghost use Rattle.words.specs.Statements.{wide};
 
-use crate::text::next_word;
+use crate::text::Words;
 
-/// The number that a word of digits writes, if it is at most `limit`.
-fn number(word: &[u8], limit: u16) -> Option<u16>
-    ensures { result ≡ number_of limit word.now }
+/// A word as text, if it is digits alone.
+fn digits(word: &[u8]) -> Option<&str>
+    ensures { MatchOption result (all_ascii_digits word.now ≡ false) (λ text. (text.now ≡ word.now) × (all_ascii_digits word.now ≡ true)) }
 {
-    if word.is_empty() {
-        return None;
+    if word.iter().all(u8::is_ascii_digit) {
+        str::from_utf8(word).ok()
+    } else {
+        None
     }
-    let mut value: u32 = 0;
-    for byte in word {
-        if !byte.is_ascii_digit() {
-            return None;
-        }
-        value = 10 * value + u32::from(*byte - b'0');
-        // Later digits only raise it, so it is refused before it outgrows its type.
-        if value > u32::from(limit) {
-            return None;
-        }
-    }
-    Some(value as u16)
 }
 
-/// The words of a text as numbers: one for each limit, at most that limit, and no word more.
-pub fn numbers<const N: usize>(text: &[u8], limits: [u16; N]) -> Option<[u16; N]>
-    ensures { result ≡ numbers_of limits.entry (words_of text.now) }
+/// The number that a word of digits writes, if it is at most 65,535.
+fn number(word: &[u8]) -> Option<u16>
+    ensures { result ≡ number_of wide word.now }
 {
-    let mut values = [0; N];
-    let mut rest = text;
-    for (i, limit) in limits.iter().enumerate() {
-        let (word, after) = next_word(rest)?;
-        values[i] = number(word, *limit)?;
-        rest = after;
+    digits(word)?.parse().ok()
+}
+
+/// The words as so many numbers, and no word more.
+pub fn numbers<const N: usize>(mut words: Words<'_>) -> Option<[u16; N]>
+    ensures { result ≡ numbers_of (replicate N wide) words.entry }
+{
+    let mut numbers = [0; N];
+    for value in numbers.iter_mut() {
+        *value = number(words.next()?)?;
     }
-    match next_word(rest) {
-        Some(_) => None,
-        None => Some(values),
-    }
+    words.next().is_none().then_some(numbers)
 }

@@ -1,8 +1,11 @@
-use Rattle.std.proofs.Common.{arith, lit<}
-use Rattle.words.specs.Statements.{hull_limits}
-use Rattle.words.specs.Words.{words_of}
-use Rattle.words.proofs.Bounds.{within_limit}
+use Rattle.std.proofs.Common.{refl, ap, sym, ◌∙◌, lit<, arith}
+use Rattle.std.specs.Option.{option_map}
+use Rattle.words.specs.Statements.{hull_limits, hull_of}
+use Rattle.words.proofs.Bounds.{over_limit}
 use Rattle.words.proofs.read_hull.Goals as goal
 
-pub overflow_cast-result : goal.overflow_cast-result
-overflow_cast-result c = let low = within_limit hull_limits (words_of c.args.text.now) _ c.in_ok-length.ensures 4 (lit< tt) in omega arith
+pub returns-in_err-narrowed : goal.returns-in_err-narrowed
+returns-in_err-narrowed c =
+    let high = c.in_err-narrowed.ensures in
+    c.from_residual-in_err-narrowed.ensures
+    ∙ sym (ap (option_map hull_of) (over_limit hull_limits c.args.words c.in_ok-length.field-0 refl c.in_ok-length.ensures 4 (lit< tt) (omega arith)))

@@ -1,48 +1,47 @@
-use Rattle.std.proofs.Common.{◌+◌, ◌<◌, length, take, drop, Some, sym, ap, ◌∙◌, arith}
+use Rattle.std.proofs.Common.{◌≡◌, ◌+◌, ◌-◌, ◌<◌, length, replicate, take, sym, ap, ◌∙◌, arith}
 use Rattle.std.proofs.lemmas.List.{length-replicate, length-set, take_all, take_more_set}
-use Rattle.words.specs.Words.{words_of}
 use Rattle.words.specs.Numbers.{numbers_of}
-use Rattle.words.proofs.Values.{after_front, after_none, no_word_left, word_left, all_read, no_number, number_more}
+use Rattle.words.specs.Statements.{wide}
+use Rattle.words.proofs.Values.{after_none, read_on, no_word_left, no_number, number_more, no_more}
 use Rattle.words.proofs.numbers.numbers.Goals as goal
 
-pub loop-i-init : goal.loop-i-init
-loop-i-init g c = (c.well_formed.1.0.1.0.1, length-replicate g.row.N 0, after_none _)
+pub loop-value-init : goal.loop-value-init
+loop-value-init g c =
+    let all : g.row.N - 0 ≡ g.row.N = omega arith in
+    record { count = length-replicate g.row.N 0; same = after_none _ ∙ ap (λ n. numbers_of (replicate n wide) c.args.words) all }
 
-pub returns-in_err-word : goal.returns-in_err-word
-returns-in_err-word g c =
+pub returns-in_err-next : goal.returns-in_err-next
+returns-in_err-next g c =
+    let i = c.loop-value.value-index in
     c.from_residual.ensures
-    ∙ sym (no_word_left c.args.limits (take c.loop-i.i c.loop-i.values) c.loop-i.i (words_of c.loop-i.rest.now) (omega arith) c.in_err-word.ensures)
-    ∙ c.loop-i.invariant.2
+    ∙ sym (no_word_left wide (take i c.loop-value.value-items) (g.row.N - i) c.loop-value.words (g.row.N - (i + 1)) (omega arith) c.in_err-next.ensures.steps.0)
+    ∙ c.loop-value.invariant.same
 
-pub returns-in_err-values : goal.returns-in_err-values
-returns-in_err-values g c =
-    c.from_residual-in_err-values.ensures
-    ∙ sym (no_number c.args.limits (take c.loop-i.i c.loop-i.values) c.loop-i.i (words_of c.loop-i.rest.now) c.in_ok-word.word.now (words_of c.in_ok-word.after.now) (omega arith) c.in_ok-word.ensures c.in_err-values.ensures)
-    ∙ c.loop-i.invariant.2
+pub returns-in_err-value : goal.returns-in_err-value
+returns-in_err-value g c =
+    let i = c.loop-value.value-index in
+    c.from_residual-in_err-value.ensures
+    ∙ sym (no_number wide (take i c.loop-value.value-items) (g.row.N - i) c.loop-value.words (g.row.N - (i + 1)) _ _ (omega arith) c.in_ok-next.ensures.steps c.in_err-value.ensures)
+    ∙ c.loop-value.invariant.same
 
-pub loop-i-preserved : goal.loop-i-preserved
-loop-i-preserved g c =
-    let i = c.loop-i.i in
-    let values = c.loop-i.values in
-    let n = c.in_ok-values.field-0 in
-    let within : i < length values = omega arith in
-    let front = take_more_set values i n within in (
-      c.loop-i.invariant.0,
-      length-set values i n ∙ c.loop-i.invariant.1,
-      ap (λ l. after_front l (numbers_of (drop (i + 1) c.args.limits) (words_of c.in_ok-word.after.now))) front
-          ∙ sym (number_more c.args.limits (take i values) i (words_of c.loop-i.rest.now) c.in_ok-word.word.now (words_of c.in_ok-word.after.now) (omega arith) c.in_ok-word.ensures n c.in_ok-values.ensures)
-          ∙ c.loop-i.invariant.2,
-    )
+pub loop-value-preserved : goal.loop-value-preserved
+loop-value-preserved g c =
+    let i = c.loop-value.value-index in
+    let items = c.loop-value.value-items in
+    let n = c.in_ok-value.field-0 in
+    let within : i < length items = omega (arith, c.loop-value.invariant.count) in
+    record {
+      count = length-set items i n ∙ c.loop-value.invariant.count;
+      same = ap (λ l. read_on wide l (g.row.N - (i + 1)) c.next.new.self) (take_more_set items i n within)
+          ∙ sym (number_more wide (take i items) (g.row.N - i) c.loop-value.words (g.row.N - (i + 1)) _ _ (omega arith) c.in_ok-next.ensures.steps n c.in_ok-value.ensures)
+          ∙ c.loop-value.invariant.same;
+    }
 
-pub returns-in-Some : goal.returns-in-Some
-returns-in-Some g c =
-    sym (word_left c.args.limits (take c.loop-i.i c.loop-i.values) c.loop-i.i (words_of c.loop-i.rest.now) _ _ (omega arith) c.in-Some.ensures)
-    ∙ c.loop-i.invariant.2
-
-pub returns-in-None : goal.returns-in-None
-returns-in-None g c =
-    let i = c.loop-i.i in
-    let values = c.loop-i.values in
-    ap Some (sym (take_all i values (omega arith)))
-    ∙ sym (all_read c.args.limits (take i values) i (words_of c.loop-i.rest.now) (omega arith) c.in-None.ensures)
-    ∙ c.loop-i.invariant.2
+pub returns : goal.returns
+returns g c =
+    let i = c.loop-value.value-index in
+    let items = c.loop-value.value-items in
+    let all : take i items ≡ items = take_all i items (omega (arith, c.loop-value.invariant.count)) in
+    c.then_some.ensures
+    ∙ no_more wide items (g.row.N - i) c.loop-value.words c.next-2.result c.next-2.new.self c.is_none.result (omega arith) c.next-2.ensures.steps c.is_none.ensures
+    ∙ rw all at c.loop-value.invariant.same

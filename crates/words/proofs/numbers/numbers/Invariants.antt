@@ -1,9 +1,11 @@
-use Rattle.std.proofs.Common.{◌≡◌, length, take, drop}
-use Rattle.words.specs.Words.{words_of}
+use Rattle.std.proofs.Common.{◌≡◌, ◌-◌, replicate, length, take}
 use Rattle.words.specs.Numbers.{numbers_of}
-use Rattle.words.proofs.Values.{after_front}
+use Rattle.words.specs.Statements.{wide}
+use Rattle.words.proofs.Values.{read_on}
 use Rattle.words.proofs.numbers.numbers.Given as goal
 
-abbrev pub invariant-loop-i : goal.invariant-loop-i
-invariant-loop-i g l =
-    (length l.limit-items ≡ g.row.N) × (length l.values ≡ g.row.N) × (after_front (take l.i l.values) (numbers_of (drop l.i l.limit-items) (words_of l.rest)) ≡ numbers_of l.limit-items (words_of l.text))
+abbrev pub invariant-loop-value : goal.invariant-loop-value
+invariant-loop-value g l = record {
+  count : length l.value-items ≡ g.row.N;
+  same : read_on wide (take l.value-index l.value-items) (g.row.N - l.value-index) l.words ≡ numbers_of (replicate g.row.N wide) l.initial.words;
+}

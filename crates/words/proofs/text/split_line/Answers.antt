@@ -1,23 +1,13 @@
-use Rattle.std.proofs.Common.{◌+◌, length, drop, sym, ap, ◌∙◌, arith, length-drop, length-take}
-use Rattle.std.proofs.lemmas.List.{take_rest, drop_all}
+use Rattle.std.proofs.Common.{ap, ◌∙◌, refl, rules, tests, arith, length-drop}
+use Rattle.words.proofs.Cuts.{up_to_cut, past_line, got_past}
 use Rattle.words.proofs.text.split_line.Goals as goal
 
-pub returns-then-next-text : goal.returns-then-next-text
-returns-then-next-text c =
-    let text = c.args.text.now in
-    let n = length c.before-line.result.now + 1 in
+pub returns : goal.returns
+returns c =
+    let cut = c.split_before.ensures in
+    let later = ap (λ l. l.now) c.unwrap_or.ensures ∙ got_past c.split_before.result.1.now c.get.result _ refl c.get.ensures.lookup ∙ past_line cut (λ b r says. search (rules, tests)) in
     record {
-      first = c.before-line.ensures;
-      later = take_rest text n ∙ ap (λ line. drop (length line + 1) text) c.before-line.ensures;
-      shorter = λ some. simp (length-take, length-drop) (omega arith);
-    }
-
-pub returns-else-next-text : goal.returns-else-next-text
-returns-else-next-text c =
-    let text = c.args.text.now in
-    let n = length c.before-line.result.now + 1 in
-    record {
-      first = c.before-line.ensures;
-      later = sym (drop_all n text c.if-next-text.false) ∙ ap (λ line. drop (length line + 1) text) c.before-line.ensures;
-      shorter = λ some. some;
+      first = up_to_cut cut 10 (λ b r says. search (rules, tests));
+      later = later;
+      shorter = λ some. rw later (simp length-drop (omega arith));
     }
