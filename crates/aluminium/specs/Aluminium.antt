@@ -6,7 +6,7 @@ use Rattle.terms.specs.declared.hull.Hull.{Hull}
 use Rattle.terms.specs.Rules.{Rules, Law}
 use Rattle.clauses.specs.Rounding.{divided_up}
 use Rattle.clauses.specs.Panels.{bending, panel_thickness}
-use Rattle.clauses.specs.Clauses.{Clauses, rules_by, law_by, by_kind, ◌says◌, Pull, on◌by◌to◌, by_kinds, AllRise, pulls_rise}
+use Rattle.clauses.specs.Clauses.{Clauses, Rising, rules_by, law_by, by_kind, ◌says◌, Pull, on◌by◌to◌, by_kinds, AllRise, pulls_rise}
 
 -- 41 to 46 are panels of plating, 47 is the keel plate, 51 to 59 are stiffeners
 abbrev pub panel : Entry → Bool
@@ -67,5 +67,8 @@ aluminium = rules_by clauses
 each_rises : AllRise pulls
 each_rises = ((λ m n h. omega arith), tt)
 
+pub rising : Rising clauses
+rising = λ line neighbour. pulls_rise line.kind neighbour.kind pulls each_rises
+
 pub aluminium_law : Law aluminium
-aluminium_law = law_by clauses (λ line neighbour. pulls_rise line.kind neighbour.kind pulls each_rises)
+aluminium_law = law_by clauses rising

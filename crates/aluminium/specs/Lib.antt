@@ -1,1 +1,2 @@
 pub mod Aluminium
+pub mod Kinds

@@ -4,68 +4,27 @@
 ghost use Rattle.std.specs.Prelude.{◌≡◌, ◌*◌, ◌^◌, max};
 ghost use Rattle.clauses.specs.Panels.{bending, panel_thickness};
 ghost use Rattle.clauses.specs.Rounding.{divided_up};
-ghost use Rattle.aluminium.specs.Aluminium.{aluminium, aluminium_law, stiffener, fits, panel_factor, stiffener_factor, aspect, own, pull};
+ghost use Rattle.aluminium.specs.Aluminium.{clauses, rising, aspect};
 
-use clauses::panel::{bending_of, thickness_of};
-use clauses::rounding::{divided_up, end_size};
-use terms::book::RuleBook;
+use crate::kind::Kind;
+use clauses::book::Clauses;
+use clauses::panel::{Panel, bending_of};
+use clauses::rounding::divided_up;
 use terms::entry::Entry;
 use terms::hull::Hull;
 
-/// The rules for aluminium fast craft.
+pub mod kind;
+
+/// The clauses for aluminium fast craft; `ByClauses(Aluminium)` is the rule book.
 #[derive(Clone, Copy)]
 pub struct Aluminium;
-
-fn is_stiffener(line: Entry) -> bool
-    ensures { result ≡ stiffener line }
-{
-    51 <= line.kind && line.kind <= 59
-}
-
-fn line_fits(hull: Hull, line: Entry) -> bool
-    ensures { result ≡ fits hull line }
-{
-    match line.kind {
-        41..=46 => line.spacing > 0 && line.spacing <= line.span && line.strength > 0,
-        47 => true,
-        51..=59 => line.spacing > 0 && line.span > 0 && line.strength > 0,
-        _ => false,
-    }
-}
-
-// The factor of a panel of plating, in tenths.
-fn factor_of_panel(line: Entry) -> u16
-    ensures { result ≡ panel_factor line }
-{
-    match line.kind {
-        41 => 250,
-        42 | 44 | 45 => 258,
-        43 => 278,
-        46 => 224,
-        _ => 0,
-    }
-}
-
-// The factor of a stiffener.
-fn factor_of_stiffener(line: Entry) -> u16
-    ensures { result ≡ stiffener_factor line }
-{
-    match line.kind {
-        51 => 115,
-        52 => 135,
-        53 | 55 | 58 => 130,
-        54 | 56 | 57 => 150,
-        59 => 120,
-        _ => 0,
-    }
-}
 
 // A square panel is stiffer than a long one: the factor of its aspect, in thousandths.
 fn factor_of_aspect(line: Entry) -> u16
     ensures { result ≡ aspect line }
 {
-    let short = line.spacing as u128;
-    let long = line.span as u128;
+    let short = u128::from(line.spacing);
+    let long = u128::from(line.span);
     if 2 * short <= long {
         1_000
     } else {
@@ -73,75 +32,86 @@ fn factor_of_aspect(line: Entry) -> u16
     }
 }
 
-// The thickness of a panel under its pressure, and never below 2 mm.
-fn thickness_of_panel(line: Entry) -> u16
-    ensures { result ≡ max (panel_thickness (panel_factor line) (aspect line) line) 200 }
+// The thickness of a panel under its pressure, and never below 2 mm. The factor is in tenths.
+fn thickness_of(factor: u16, line: Entry) -> u128
+    ensures { result ≡ max (panel_thickness factor (aspect line) line) 200 }
 {
-    let least = thickness_of(factor_of_panel(line), factor_of_aspect(line), line);
-    least.max(200)
+    let panel = Panel {
+        factor,
+        aspect: factor_of_aspect(line),
+        line,
+    };
+    u128::from(panel.thickness()).max(200)
 }
 
 // The modulus of a stiffener.
-fn modulus_of(line: Entry) -> u128
-    ensures { result ≡ divided_up (bending (stiffener_factor line) line * line.pressure) (10 ^ 7 * line.strength) }
+fn modulus_of(factor: u16, line: Entry) -> u128
+    ensures { result ≡ divided_up (bending factor line * line.pressure) (10 ^ 7 * line.strength) }
 {
-    let bending = bending_of(factor_of_stiffener(line), line);
     divided_up(
-        bending * line.pressure as u128,
-        10_000_000 * line.strength as u128,
+        bending_of(factor, line) * u128::from(line.pressure),
+        10_000_000 * u128::from(line.strength),
     )
 }
 
-// The own size that the clauses ask for, not yet ended.
-fn own_clause(hull: Hull, line: Entry) -> u128
-    ensures { result ≡ own hull line }
-{
-    match line.kind {
-        41..=46 => thickness_of_panel(line) as u128,
-        47 => 200,
-        51..=59 => modulus_of(line),
-        _ => 0,
-    }
-}
-
-// The pull that the clauses ask for, not yet ended.
-fn pull_clause(line: Entry, neighbour: Entry, size: u16) -> u128
-    ensures { result ≡ pull line neighbour size }
-{
-    match (line.kind, neighbour.kind) {
-        (47, 41) => size as u128 + 100,
-        _ => 0,
-    }
-}
-
-impl RuleBook for Aluminium {
+impl Clauses for Aluminium {
     const NUMBER: u8 = 3;
 
-    ghost meaning = { λ _. aluminium };
+    ghost clauses = { clauses };
 
-    ghost law = { λ _. aluminium_law };
+    ghost rising = { rising };
 
-    fn fits(&mut self, hull: Hull, line: Entry) -> bool {
-        line_fits(hull, line)
-    }
-
-    fn is_plate(&mut self, hull: Hull, line: Entry) -> bool {
-        !line_fits(hull, line) || !is_stiffener(line)
-    }
-
-    fn own_size(&mut self, hull: Hull, line: Entry) -> u16 {
-        if line_fits(hull, line) {
-            end_size(own_clause(hull, line))
-        } else {
-            0
+    fn fits(hull: Hull, line: Entry) -> bool {
+        match Kind::try_from(line.kind) {
+            Ok(Kind::KeelPlate) => true,
+            Ok(_) if Aluminium::is_stiffener(line) => {
+                line.spacing > 0 && line.span > 0 && line.strength > 0
+            }
+            Ok(_) => line.spacing > 0 && line.spacing <= line.span && line.strength > 0,
+            Err(_) => false,
         }
     }
 
-    fn pull(&mut self, hull: Hull, line: Entry, neighbour: Entry, size: u16) -> u16 {
-        if line_fits(hull, line) {
-            end_size(pull_clause(line, neighbour, size))
-        } else {
-            0
+    fn is_stiffener(line: Entry) -> bool {
+        matches!(
+            Kind::try_from(line.kind),
+            Ok(
+                Kind::BottomLongitudinal
+                    | Kind::BottomTransverse
+                    | Kind::SideLongitudinal
+                    | Kind::SideTransverse
+                    | Kind::DeckLongitudinal
+                    | Kind::DeckTransverse
+                    | Kind::WallStiffener
+                    | Kind::CollisionOrTankBulkheadStiffener
+                    | Kind::WatertightBulkheadStiffener
+            )
+        )
+    }
+
+    fn own(hull: Hull, line: Entry) -> u128 {
+        match Kind::try_from(line.kind) {
+            Ok(Kind::Bottom) => thickness_of(250, line),
+            Ok(Kind::Side | Kind::Wall | Kind::CollisionOrTankBulkhead) => thickness_of(258, line),
+            Ok(Kind::Deck) => thickness_of(278, line),
+            Ok(Kind::WatertightBulkhead) => thickness_of(224, line),
+            Ok(Kind::KeelPlate) => 200,
+            Ok(Kind::BottomLongitudinal) => modulus_of(115, line),
+            Ok(Kind::BottomTransverse) => modulus_of(135, line),
+            Ok(Kind::SideLongitudinal | Kind::DeckLongitudinal) => modulus_of(130, line),
+            Ok(Kind::SideTransverse | Kind::DeckTransverse | Kind::WallStiffener) => {
+                modulus_of(150, line)
+            }
+            Ok(Kind::CollisionOrTankBulkheadStiffener) => modulus_of(130, line),
+            Ok(Kind::WatertightBulkheadStiffener) => modulus_of(120, line),
+            Err(_) => 0,
+        }
+    }
+
+    fn pull(line: Entry, neighbour: Entry, size: u16) -> u128 {
+        match (Kind::try_from(line.kind), Kind::try_from(neighbour.kind)) {
+            (Ok(Kind::KeelPlate), Ok(Kind::Bottom)) => u128::from(size) + 100,
+            _ => 0,
         }
     }
 }

@@ -1,2 +1,1 @@
-pub mod Rounds
 pub mod Searches

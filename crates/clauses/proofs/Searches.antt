@@ -22,7 +22,4 @@ least_is end r test l = from_is end 0 r test (omega arith) (omega (arith, l.with
 
 -- a thicker plate resists no less
 pub resists_more : (strength t m : ℕ) → t ≤ m → t * t * strength * 10 ^ 10 ≤ m * m * strength * 10 ^ 10
-resists_more strength t m h =
-    let a : t * t ≤ m * m = mul-le t t m m h h in
-    let b : t * t * strength ≤ m * m * strength = mul-le (t * t) strength (m * m) strength a (omega arith) in
-    mul-le (t * t * strength) (10 ^ 10) (m * m * strength) (10 ^ 10) b (omega arith)
+resists_more strength t m h = grind (arith, mul-le t t m m, mul-le (t * t) strength (m * m) strength)

@@ -6,58 +6,69 @@ ghost use Rattle.clauses.specs.Panels.{bending, stands, panel_thickness};
 use crate::rounding::END;
 use terms::entry::Entry;
 
-fn bending_product(factor: u16, line: Entry) -> u128
-    ensures { result ≡ bending factor line }
-{
-    factor as u128 * line.spacing as u128 * line.span as u128 * line.span as u128
-}
-
 /// What a stiffener's section modulus grows with: its factor, its spacing, and its span twice. The bound leaves room for one factor more.
 pub fn bending_of(factor: u16, line: Entry) -> u128
     ensures value { result ≡ bending factor line }
     ensures bound { result < 2 ^ 64 }
 {
-    bending_product(factor, line)
+    u128::from(factor) * u128::from(line.spacing) * u128::from(line.span) * u128::from(line.span)
 }
 
-// A product of three, with its bound.
-fn reach(factor: u16, aspect: u16, panel: Entry) -> u128
-    ensures value { result ≡ factor * panel.spacing * aspect }
-    ensures bound { result < 2 ^ 48 }
-{
-    factor as u128 * panel.spacing as u128 * aspect as u128
+/// A panel of plating under pressure.
+#[derive(Clone, Copy)]
+pub struct Panel {
+    /// the factor of the member, k
+    pub factor: u16,
+    /// the factor of the aspect, C, in thousandths
+    pub aspect: u16,
+    /// spacing, pressure and strength
+    pub line: Entry,
 }
 
-// The pressure's side of the inequality.
-fn load(factor: u16, aspect: u16, panel: Entry) -> u128
-    ensures { result ≡ (factor * panel.spacing * aspect) * (factor * panel.spacing * aspect) * panel.pressure }
-{
-    let reach = reach(factor, aspect, panel);
-    reach * reach * panel.pressure as u128
-}
-
-// The plate's side of the inequality.
-fn resistance(thickness: u16, panel: Entry) -> u128
-    ensures { result ≡ thickness * thickness * panel.strength * 10 ^ 10 }
-{
-    thickness as u128 * thickness as u128 * panel.strength as u128 * 10_000_000_000
-}
-
-/// The least thickness at which a panel stands its pressure, by halving the range that is left.
-pub fn thickness_of(factor: u16, aspect: u16, panel: Entry) -> u16
-    ensures value { result ≡ panel_thickness factor aspect panel }
-    ensures least { Least 60001 (stands factor aspect panel) result }
-{
-    let load = load(factor, aspect, panel);
-    let mut low = 0;
-    let mut high = END;
-    while low < high {
-        let middle = low + (high - low) / 2;
-        if resistance(middle, panel) < load {
-            low = middle + 1;
-        } else {
-            high = middle;
-        }
+impl Panel {
+    // A product of three, with its bound.
+    fn reach(self) -> u128
+        ensures value { result ≡ self.factor * self.line.spacing * self.aspect }
+        ensures bound { result < 2 ^ 48 }
+    {
+        u128::from(self.factor) * u128::from(self.line.spacing) * u128::from(self.aspect)
     }
-    low
+
+    // The pressure's side of the inequality.
+    fn load(self) -> u128
+        ensures { result ≡ (self.factor * self.line.spacing * self.aspect) * (self.factor * self.line.spacing * self.aspect) * self.line.pressure }
+    {
+        let reach = self.reach();
+        reach * reach * u128::from(self.line.pressure)
+    }
+
+    // The plate's side of the inequality.
+    fn resistance(self, thickness: u16) -> u128
+        ensures { result ≡ thickness * thickness * self.line.strength * 10 ^ 10 }
+    {
+        u128::from(thickness)
+            * u128::from(thickness)
+            * u128::from(self.line.strength)
+            * 10_000_000_000
+    }
+
+    /// The least thickness at which the panel stands its pressure, by halving the range that is left.
+    pub fn thickness(self) -> u16
+        ensures value { result ≡ panel_thickness self.factor self.aspect self.line }
+        ensures least { Least 60001 (stands self.factor self.aspect self.line) result }
+    {
+        let load = self.load();
+        // Written out, since the library halves slices and no ranges.
+        let mut low = 0;
+        let mut high = END;
+        while low < high {
+            let middle = low + (high - low) / 2;
+            if self.resistance(middle) < load {
+                low = middle + 1;
+            } else {
+                high = middle;
+            }
+        }
+        low
+    }
 }

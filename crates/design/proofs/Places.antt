@@ -1,5 +1,6 @@
 -- The line of a mark, and its place.
-use Rattle.std.proofs.Common.{◌≡◌, ℕ, true, false, cond, eqb, List, [], ◌∷◌, get_or, is_some, Some, None, Option, sym, refl, ap, ◌∙◌, one-add, arith}
+use Rattle.std.specs.List.{list_any}
+use Rattle.std.proofs.Common.{◌≡◌, ℕ, ◌||◌, true, false, cond, eqb, List, [], ◌∷◌, get_or, is_some, Some, None, Option, sym, refl, ap, ◌∙◌, one-add, arith}
 use Rattle.register.specs.Keys.{place_of, further}
 use Rattle.design.specs.declared.line.Line.{Line}
 use Rattle.design.specs.Lines.{no_line, mark_of, line_of, there_in}
@@ -32,3 +33,9 @@ at_none (Some p) ls e = let z : ◌≡◌ {A = ℕ} 0 1 = cc in absurd (omega ar
 
 pub no_place : (m : ℕ) (ls : List Line) → line_of m ls ≡ None → place_of mark_of m ls ≡ None
 no_place m ls e = at_none (place_of mark_of m ls) ls (sym (line_is m ls) ∙ e)
+
+-- a mark is there where a line has it
+pub there_any : (m : ℕ) (ls : List Line) → there_in m ls ≡ list_any (λ l. eqb (mark_of l) m) ls
+there_any m [] = refl
+there_any m (l ∷ ls) =
+    elim (eqb (mark_of l) m) as (λ b. is_some (cond b (Some l) (line_of m ls)) ≡ (b || list_any (λ l. eqb (mark_of l) m) ls)) [ true ↦ refl | false ↦ there_any m ls ]

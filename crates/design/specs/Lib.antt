@@ -1,4 +1,5 @@
 pub mod Contents
+pub mod Jobs
 pub mod Lines
 pub mod Schedules
 pub mod Settings

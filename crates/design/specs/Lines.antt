@@ -17,11 +17,6 @@ no_line = record {
 abbrev pub mark_of : Line → ℕ
 mark_of l = l.entry.mark
 
--- the first line that passes a test
-abbrev pub first_with : (Line → Bool) → List Line → Option Line
-first_with test [] = None
-first_with test (l ∷ ls) = cond (test l) (Some l) (first_with test ls)
-
 -- the line of a mark, if there is one
 abbrev pub line_of : ℕ → List Line → Option Line
 line_of m [] = None

@@ -1,11 +1,12 @@
 //! Laid sizes, judged as a design.
-ghost use Rattle.std.specs.Prelude.{◌≡◌, ◌<◌, not, ◌&&◌, length, Err, nat_lt};
-ghost use Rattle.terms.specs.Questions.{refusal_of};
-ghost use Rattle.design.specs.Lines.{first_with, there_in};
-ghost use Rattle.design.specs.Schedules.{touching, job, laid_sizes};
+ghost use Rattle.std.specs.Prelude.{◌≡◌, ◌<◌, ◌&&◌, length, find, nat_lt};
+ghost use Rattle.design.specs.Jobs.{job_of, Kept};
+ghost use Rattle.design.specs.Lines.{there_in};
+ghost use Rattle.design.specs.Schedules.{touching, laid_sizes};
 ghost use Rattle.design.specs.Verdicts.{missing, names_missing, unfit, ready_hull, Pulled, Failing, Judged, Checks};
 
 use crate::basis::DesignBasis;
+use crate::job::Job;
 use crate::line::Line;
 use crate::verdict::{Failure, Shortfall, Verdict};
 use terms::entry::Entry;
@@ -13,35 +14,11 @@ use terms::ground::Ground;
 use terms::hull::Hull;
 use terms::refusal::Refusal;
 
-// A refusal at the mark of a line.
-fn refuse<T>(ground: Ground, line: Line) -> Result<T, Refusal>
-    ensures { result ≡ Err (refusal_of ground line.entry.mark) }
-{
-    Err(Refusal {
-        ground,
-        at: line.entry.mark as usize,
-    })
-}
-
-// Whether two lines touch: either names the other.
-fn are_touching(a: Entry, b: Entry) -> bool
-    ensures { result ≡ touching a b }
-{
-    let a_names = a.near == b.mark || a.far == b.mark;
-    let b_names = b.near == a.mark || b.far == a.mark;
-    (a_names && b.mark != 0) || (b_names && a.mark != 0)
-}
-
 // Whether a line has the mark.
 fn has_mark(lines: &[Line], mark: u16) -> bool
     ensures { result ≡ there_in mark lines.now }
 {
-    for line in lines {
-        if line.entry.mark == mark {
-            return true;
-        }
-    }
-    false
+    lines.iter().any(|line| line.entry.mark == mark)
 }
 
 // Whether a neighbour is named that is not there.
@@ -59,28 +36,84 @@ fn has_missing_neighbour(lines: &[Line], line: Entry) -> bool
 
 // The first line that names a neighbour that is not there.
 fn first_without_neighbour(lines: &[Line]) -> Option<Line>
-    ensures { result ≡ first_with (λ l. names_missing lines.now l.entry) lines.now }
+    ensures { result ≡ find (λ l. names_missing lines.now l.entry) lines.now }
 {
-    for line in lines {
-        if has_missing_neighbour(lines, line.entry) {
-            return Some(*line);
-        }
-    }
-    None
+    lines
+        .iter()
+        .copied()
+        .find(|line| has_missing_neighbour(lines, line.entry))
 }
 
-// The first line that does not fit.
-fn first_unfit<D: DesignBasis>(basis: &mut D, hull: Hull, lines: &[Line]) -> Option<Line>
-    ensures value { result ≡ first_with (λ l. unfit (D.setting basis.old) hull l.entry) lines.now }
-    ensures same { D.setting basis.new ≡ D.setting basis.old }
-    ensures lent { D.lenders basis.new ≡ D.lenders basis.old }
-{
-    for line in lines {
-        if !basis.fits(hull, line.entry) {
-            return Some(*line);
+// A question may change the basis, and of a closure that does so the proof knows nothing afterwards: so there are loops here.
+impl<D: DesignBasis> Job<'_, D> {
+    // The first line that does not fit.
+    fn first_unfit(&mut self) -> Option<Line>
+        ensures value { result ≡ find (λ l. unfit (D.setting self.old.basis.now) self.old.hull l.entry) self.old.lines.now }
+        ensures kept { Kept D.setting D.lenders self.old self.new }
+    {
+        for line in self.lines {
+            if !self.basis.fits(self.hull, line.entry) {
+                return Some(*line);
+            }
         }
+        None
     }
-    None
+
+    // Whether the line touches another, which obliges it to more than its laid size.
+    fn is_below_pull(&mut self, line: Line, other: Line) -> bool
+        ensures value { result ≡ (touching line.entry other.entry && nat_lt line.laid ((D.setting self.old.basis.now).rules.pull self.old.hull line.entry other.entry other.laid)) }
+        ensures kept { Kept D.setting D.lenders self.old self.new }
+    {
+        line.touches(other) && line.laid < self.pull(line, other, other.laid)
+    }
+
+    // Fails with the mark of the first line whose pull line i does not bear.
+    fn check_pulls(&mut self, i: usize) -> Result<(), u16>
+        requires { i < length self.old.lines.now }
+        ensures value { Pulled (job_of D.setting self.old) i result }
+        ensures kept { Kept D.setting D.lenders self.old self.new }
+    {
+        let line = self.lines[i];
+        for other in self.lines {
+            if self.is_below_pull(line, *other) {
+                return Err(other.entry.mark);
+            }
+        }
+        Ok(())
+    }
+
+    // Fails where line i does, in the order of the grounds.
+    fn check_line(&mut self, i: usize) -> Result<(), Failure>
+        requires { i < length self.old.lines.now }
+        ensures value { Failing (job_of D.setting self.old) i result }
+        ensures kept { Kept D.setting D.lenders self.old self.new }
+    {
+        let line = self.lines[i];
+        let failure = |ground, neighbour| Failure {
+            mark: line.entry.mark,
+            ground,
+            neighbour,
+        };
+        if !self.basis.is_stocked(self.hull, line.entry, line.laid) {
+            return Err(failure(Shortfall::NotInStock, 0));
+        }
+        if line.laid < self.basis.own_size(self.hull, line.entry) {
+            return Err(failure(Shortfall::BelowOwnSize, 0));
+        }
+        self.check_pulls(i)
+            .map_err(|neighbour| failure(Shortfall::BelowPull, neighbour))
+    }
+
+    // The first failure of the laid sizes, line by line: by places, since it is by places that a schedule is lawful.
+    fn judge(&mut self) -> Verdict
+        ensures value { Judged (job_of D.setting self.old) (laid_sizes (job_of D.setting self.old)) result }
+        ensures kept { Kept D.setting D.lenders self.old self.new }
+    {
+        for i in 0..self.lines.len() {
+            self.check_line(i)?;
+        }
+        Ok(())
+    }
 }
 
 /// What is asked before lines are judged or settled: the hull, where there is one, all named neighbours are there and all lines fit.
@@ -94,97 +127,15 @@ pub fn ready_hull<D: DesignBasis>(
     ensures same { D.setting basis.new ≡ D.setting basis.old }
     ensures lent { D.lenders basis.new ≡ D.lenders basis.old }
 {
-    let Some(hull) = hull else {
-        return Err(Refusal {
-            ground: Ground::HullMissing,
-            at: 0,
-        });
-    };
+    let hull = hull.ok_or(Ground::HullMissing.at(0))?;
     if let Some(line) = first_without_neighbour(lines) {
-        return refuse(Ground::NeighbourMissing, line);
+        return Err(Ground::NeighbourMissing.at(line.entry.mark.into()));
     }
-    if let Some(line) = first_unfit(basis, hull, lines) {
-        return refuse(Ground::LineUnfit, line);
+    let mut job = Job { basis, hull, lines };
+    if let Some(line) = job.first_unfit() {
+        return Err(Ground::LineUnfit.at(line.entry.mark.into()));
     }
     Ok(hull)
-}
-
-// Whether the line that touches another is obliged to more than its laid size.
-fn is_below_pull<D: DesignBasis>(basis: &mut D, hull: Hull, line: Line, other: Line) -> bool
-    ensures value { result ≡ (touching line.entry other.entry && nat_lt line.laid ((D.setting basis.old).rules.pull hull line.entry other.entry other.laid)) }
-    ensures same { D.setting basis.new ≡ D.setting basis.old }
-    ensures lent { D.lenders basis.new ≡ D.lenders basis.old }
-{
-    are_touching(line.entry, other.entry)
-        && line.laid < basis.pull(hull, line.entry, other.entry, other.laid)
-}
-
-// The mark of the first line whose pull line i does not bear.
-fn first_pull<D: DesignBasis>(basis: &mut D, hull: Hull, lines: &[Line], i: usize) -> Option<u16>
-    requires { i < length lines.now }
-    ensures value { Pulled (job (D.setting basis.old) hull lines.now) i result }
-    ensures same { D.setting basis.new ≡ D.setting basis.old }
-    ensures lent { D.lenders basis.new ≡ D.lenders basis.old }
-{
-    let line = lines[i];
-    for k in 0..lines.len() {
-        if is_below_pull(basis, hull, line, lines[k]) {
-            return Some(lines[k].entry.mark);
-        }
-    }
-    None
-}
-
-// What line i fails on, in the order of the grounds.
-fn failure_at<D: DesignBasis>(
-    basis: &mut D,
-    hull: Hull,
-    lines: &[Line],
-    i: usize,
-) -> Option<Failure>
-    requires { i < length lines.now }
-    ensures value { Failing (job (D.setting basis.old) hull lines.now) i result }
-    ensures same { D.setting basis.new ≡ D.setting basis.old }
-    ensures lent { D.lenders basis.new ≡ D.lenders basis.old }
-{
-    let line = lines[i];
-    let mark = line.entry.mark;
-    if !basis.is_stocked(hull, line.entry, line.laid) {
-        return Some(Failure {
-            mark,
-            ground: Shortfall::NotInStock,
-            neighbour: 0,
-        });
-    }
-    if line.laid < basis.own_size(hull, line.entry) {
-        return Some(Failure {
-            mark,
-            ground: Shortfall::BelowOwnSize,
-            neighbour: 0,
-        });
-    }
-    match first_pull(basis, hull, lines, i) {
-        Some(neighbour) => Some(Failure {
-            mark,
-            ground: Shortfall::BelowPull,
-            neighbour,
-        }),
-        None => None,
-    }
-}
-
-// The first failure of the laid sizes, line by line.
-fn judge<D: DesignBasis>(basis: &mut D, hull: Hull, lines: &[Line]) -> Verdict
-    ensures value { Judged (job (D.setting basis.old) hull lines.now) (laid_sizes (job (D.setting basis.old) hull lines.now)) result }
-    ensures same { D.setting basis.new ≡ D.setting basis.old }
-    ensures lent { D.lenders basis.new ≡ D.lenders basis.old }
-{
-    for i in 0..lines.len() {
-        if let Some(failure) = failure_at(basis, hull, lines, i) {
-            return Verdict::Fails(failure);
-        }
-    }
-    Verdict::Passes
 }
 
 /// Reads the laid sizes as a design: it passes exactly when they are a lawful schedule, and else the first failure is named, lines and
@@ -199,5 +150,6 @@ pub fn check_lines<D: DesignBasis>(
     ensures lent { D.lenders basis.new ≡ D.lenders basis.old }
 {
     let hull = ready_hull(basis, hull, lines)?;
-    Ok(judge(basis, hull, lines))
+    let mut job = Job { basis, hull, lines };
+    Ok(job.judge())
 }

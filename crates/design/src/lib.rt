@@ -3,5 +3,6 @@
 
 pub mod basis;
 pub mod check;
+pub mod job;
 pub mod line;
 pub mod verdict;

@@ -1,15 +1,34 @@
 //! The lines of a sheet.
+ghost use Rattle.std.proofs.Common.{rules};
+ghost use Rattle.std.specs.Prelude.{◌≡◌};
 ghost use Rattle.design.specs.Lines.{no_line};
+ghost use Rattle.design.specs.Schedules.{naming, touching};
 
 use register::Keyed;
 use terms::entry::Entry;
 
 /// One plate or one stiffener: its entered values, its laid size (what is on the drawing already, 0 for nothing) and its scheduled size (0 for none).
-#[derive(Clone, Copy)]
+#[derive(Clone, Copy, Default)]
 pub struct Line {
     pub entry: Entry,
     pub laid: u16,
     pub scheduled: u16,
+}
+
+impl Line {
+    /// Whether it names the other line as a neighbour. The mark 0 is no line's.
+    pub fn names(self, other: Line) -> bool
+        ensures { result ≡ naming self.entry other.entry }
+    {
+        self.entry.names(other.entry.mark) && other.entry.mark != 0
+    }
+
+    /// Whether the two touch: either names the other.
+    pub fn touches(self, other: Line) -> bool
+        ensures { result ≡ touching self.entry other.entry }
+    {
+        self.names(other) || other.names(self)
+    }
 }
 
 impl Keyed for Line {
@@ -21,23 +40,5 @@ impl Keyed for Line {
         self.entry.mark
     }
 
-    fn vacancy() -> Line {
-        Line {
-            entry: Entry {
-                mark: 0,
-                kind: 0,
-                place: 0,
-                near: 0,
-                far: 0,
-                spacing: 0,
-                span: 0,
-                pressure: 0,
-                height: 0,
-                strength: 0,
-                area: 0,
-            },
-            laid: 0,
-            scheduled: 0,
-        }
-    }
+    ghost default_is_vacant = { Prim.search rules };
 }

@@ -1,1 +1,2 @@
 pub mod Plastic
+pub mod Kinds

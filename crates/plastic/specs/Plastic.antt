@@ -6,7 +6,7 @@ use Rattle.terms.specs.declared.hull.Hull.{Hull}
 use Rattle.terms.specs.Rules.{Rules, Law}
 use Rattle.clauses.specs.Rounding.{divided_up, per_cent}
 use Rattle.clauses.specs.Panels.{bending}
-use Rattle.clauses.specs.Clauses.{Clauses, rules_by, law_by, by_kind, ◌says◌, Pull, on◌by◌to◌, by_kinds, AllRise, pulls_rise}
+use Rattle.clauses.specs.Clauses.{Clauses, Rising, rules_by, law_by, by_kind, ◌says◌, Pull, on◌by◌to◌, by_kinds, AllRise, pulls_rise}
 
 -- 30 floor modulus, 31 bottom longitudinal
 abbrev pub stiffener : Entry → Bool
@@ -91,5 +91,8 @@ each_rises : (line : Entry) → AllRise (pulls line)
 each_rises line =
     (seat_rises (at_engine_seat line), ((λ m n h. h), ((λ m n h. omega arith), ((λ m n h. omega arith), ((λ m n h. omega arith), ((λ m n h. omega arith), tt))))))
 
+pub rising : Rising clauses
+rising = λ line neighbour. pulls_rise line.kind neighbour.kind (pulls line) (each_rises line)
+
 pub plastic_law : Law plastic
-plastic_law = law_by clauses (λ line neighbour. pulls_rise line.kind neighbour.kind (pulls line) (each_rises line))
+plastic_law = law_by clauses rising

@@ -2,34 +2,38 @@
 #![tactic(auto)]
 
 ghost use Rattle.std.specs.Prelude.{◌≡◌, ◌^◌, ◌<◌};
-ghost use Rattle.plastic.specs.Plastic.{plastic, plastic_law, stiffener, fits, head, GreaterHead, modulus, keelson, own, pull};
+ghost use Rattle.plastic.specs.Plastic.{clauses, rising, calm, at_engine_seat, near_engine, head, GreaterHead, modulus, keelson};
 
+use crate::kind::Kind;
+use clauses::book::Clauses;
 use clauses::panel::bending_of;
-use clauses::rounding::{divided_up, end_size, percentage};
-use terms::book::RuleBook;
+use clauses::rounding::{divided_up, percentage};
 use terms::entry::Entry;
 use terms::hull::Hull;
 
-/// The rules for reinforced-plastic fishing boats.
+pub mod kind;
+
+/// The clauses for reinforced-plastic fishing boats; `ByClauses(Plastic)` is the rule book.
 #[derive(Clone, Copy)]
 pub struct Plastic;
 
-fn is_stiffener(line: Entry) -> bool
-    ensures { result ≡ stiffener line }
+fn is_calm(hull: Hull) -> bool
+    ensures { result ≡ calm hull }
 {
-    line.kind == 30 || line.kind == 31
+    hull.water == 0
 }
 
-fn line_fits(hull: Hull, line: Entry) -> bool
-    ensures { result ≡ fits hull line }
+fn is_at_engine_seat(line: Entry) -> bool
+    ensures { result ≡ at_engine_seat line }
 {
-    7_000 <= hull.length
-        && hull.length < 12_000
-        && match line.kind {
-            21..=29 => true,
-            30 | 31 => line.spacing > 0 && line.span > 0,
-            _ => false,
-        }
+    line.place == 2
+}
+
+// In the engine room, or at the engine seat.
+fn is_near_engine(line: Entry) -> bool
+    ensures { result ≡ near_engine line }
+{
+    line.place == 1 || is_at_engine_seat(line)
 }
 
 /// The head of water on a member, in thousandths of a millimetre. High above the water the first of the two heads is
@@ -39,9 +43,9 @@ pub fn head_on(hull: Hull, line: Entry) -> u32
     ensures greater { GreaterHead hull line result }
     ensures bound { result < 2 ^ 27 }
 {
-    let surface = 1_000 * hull.draught as u32 + 26 * hull.length as u32;
-    let over = surface.saturating_sub(1_000 * line.height as u32);
-    over.max(500 * hull.depth as u32)
+    let surface = 1_000 * u32::from(hull.draught) + 26 * u32::from(hull.length);
+    let over = surface.saturating_sub(1_000 * u32::from(line.height));
+    over.max(500 * u32::from(hull.depth))
 }
 
 // A stiffener's modulus under its head of water.
@@ -49,7 +53,7 @@ fn modulus_of(factor: u16, hull: Hull, line: Entry) -> u128
     ensures { result ≡ modulus factor hull line }
 {
     divided_up(
-        bending_of(factor, line) * head_on(hull, line) as u128,
+        bending_of(factor, line) * u128::from(head_on(hull, line)),
         10_000_000_000_000,
     )
 }
@@ -58,72 +62,61 @@ fn modulus_of(factor: u16, hull: Hull, line: Entry) -> u128
 fn keelson_web(hull: Hull, divisor: u8) -> u128
     ensures { result ≡ keelson divisor hull }
 {
-    divided_up(hull.length as u128 + 11_750, divisor as u128)
+    divided_up(u128::from(hull.length) + 11_750, u128::from(divisor))
 }
 
-// The own size that the clauses ask for, not yet ended.
-fn own_clause(hull: Hull, line: Entry) -> u128
-    ensures { result ≡ own hull line }
-{
-    match line.kind {
-        21 if hull.water == 0 => 600,
-        21 => 800,
-        22 if hull.water == 0 => 500,
-        22 => 700,
-        23 if line.place == 1 || line.place == 2 => keelson_web(hull, 20),
-        23 => keelson_web(hull, 25),
-        24 if line.place == 1 || line.place == 2 => keelson_web(hull, 25),
-        24 => divided_up(3 * hull.length as u128 + 35_000, 100),
-        25 => divided_up(hull.length as u128, 25).max(400),
-        30 if line.place == 2 => modulus_of(51, hull, line),
-        30 => modulus_of(34, hull, line),
-        31 => modulus_of(48, hull, line),
-        _ => 0,
-    }
-}
-
-// The pull that the clauses ask for, not yet ended.
-fn pull_clause(line: Entry, neighbour: Entry, size: u16) -> u128
-    ensures { result ≡ pull line neighbour size }
-{
-    match (line.kind, neighbour.kind) {
-        (25, 23) if line.place == 2 => size as u128,
-        (26, 25) => size as u128,
-        (27, 21) => percentage(85, size),
-        (28, 21) => percentage(80, size),
-        (29, 21 | 22) => divided_up(size as u128, 2),
-        _ => 0,
-    }
-}
-
-impl RuleBook for Plastic {
+impl Clauses for Plastic {
     const NUMBER: u8 = 2;
 
-    ghost meaning = { λ _. plastic };
+    ghost clauses = { clauses };
 
-    ghost law = { λ _. plastic_law };
+    ghost rising = { rising };
 
-    fn fits(&mut self, hull: Hull, line: Entry) -> bool {
-        line_fits(hull, line)
+    fn fits(hull: Hull, line: Entry) -> bool {
+        (7_000..12_000).contains(&hull.length)
+            && Kind::try_from(line.kind).is_ok()
+            && (!Plastic::is_stiffener(line) || line.spacing > 0 && line.span > 0)
     }
 
-    fn is_plate(&mut self, hull: Hull, line: Entry) -> bool {
-        !line_fits(hull, line) || !is_stiffener(line)
+    fn is_stiffener(line: Entry) -> bool {
+        matches!(
+            Kind::try_from(line.kind),
+            Ok(Kind::Floor | Kind::BottomLongitudinal)
+        )
     }
 
-    fn own_size(&mut self, hull: Hull, line: Entry) -> u16 {
-        if line_fits(hull, line) {
-            end_size(own_clause(hull, line))
-        } else {
-            0
+    fn own(hull: Hull, line: Entry) -> u128 {
+        match Kind::try_from(line.kind) {
+            Ok(Kind::Shell) if is_calm(hull) => 600,
+            Ok(Kind::Shell) => 800,
+            Ok(Kind::Deck) if is_calm(hull) => 500,
+            Ok(Kind::Deck) => 700,
+            Ok(Kind::CentreKeelsonWeb) if is_near_engine(line) => keelson_web(hull, 20),
+            Ok(Kind::CentreKeelsonWeb) => keelson_web(hull, 25),
+            Ok(Kind::SideKeelsonWeb) if is_near_engine(line) => keelson_web(hull, 25),
+            Ok(Kind::SideKeelsonWeb) => divided_up(3 * u128::from(hull.length) + 35_000, 100),
+            Ok(Kind::FloorWeb) => divided_up(u128::from(hull.length), 25).max(400),
+            Ok(Kind::Floor) if is_at_engine_seat(line) => modulus_of(51, hull, line),
+            Ok(Kind::Floor) => modulus_of(34, hull, line),
+            Ok(Kind::BottomLongitudinal) => modulus_of(48, hull, line),
+            _ => 0,
         }
     }
 
-    fn pull(&mut self, hull: Hull, line: Entry, neighbour: Entry, size: u16) -> u16 {
-        if line_fits(hull, line) {
-            end_size(pull_clause(line, neighbour, size))
-        } else {
-            0
+    fn pull(line: Entry, neighbour: Entry, size: u16) -> u128 {
+        let Ok(kind) = Kind::try_from(line.kind) else {
+            return 0;
+        };
+        let Ok(near) = Kind::try_from(neighbour.kind) else {
+            return 0;
+        };
+        match (kind, near) {
+            (Kind::FloorWeb, Kind::CentreKeelsonWeb) if is_at_engine_seat(line) => u128::from(size),
+            (Kind::FloorFace, Kind::FloorWeb) => u128::from(size),
+            (Kind::InnerBottom, Kind::Shell) => percentage(85, size),
+            (Kind::Bulwark, Kind::Shell) => percentage(80, size),
+            (Kind::JoiningAngle, Kind::Shell | Kind::Deck) => divided_up(u128::from(size), 2),
+            _ => 0,
         }
     }
 }

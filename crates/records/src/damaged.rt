@@ -266,7 +266,7 @@ fn told(reader: &mut Reader<'_>) -> (u8, usize) {
     match reader.next_call() {
         Ok(Some(placed)) => (1, placed.at),
         Ok(None) => (0, 0),
-        Err(refusal) => (refusal.ground.number(), refusal.at),
+        Err(refusal) => (u8::from(refusal.ground), refusal.at),
     }
 }
 

@@ -99,7 +99,7 @@ pub fn blank() -> Line {
 pub fn number(answer: Result<(), Refusal>) -> (u8, usize) {
     match answer {
         Ok(()) => (0, 0),
-        Err(refusal) => (refusal.ground.number(), refusal.at),
+        Err(refusal) => (u8::from(refusal.ground), refusal.at),
     }
 }
 

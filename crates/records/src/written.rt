@@ -12,7 +12,7 @@ const LENGTH: usize = 56;
 fn count(answer: Result<usize, Refusal>) -> (u8, usize) {
     match answer {
         Ok(count) => (0, count),
-        Err(refusal) => (refusal.ground.number(), refusal.at),
+        Err(refusal) => (u8::from(refusal.ground), refusal.at),
     }
 }
 

@@ -1,8 +1,8 @@
 -- What every element of a list passes, it passes after a change of the list.
-use Rattle.std.proofs.Common.{◌≡◌, ℕ, zero, suc, ◌<◌, Bool, true, ◌&&◌, ltb, List, [], ◌∷◌, map, length, get_or, set, refl, ap, ◌∙◌, arith}
+use Rattle.std.proofs.Common.{◌≡◌, ℕ, zero, suc, ◌<◌, Bool, true, ◌&&◌, ltb, List, [], ◌∷◌, length, get_or, set, refl, ap, ◌∙◌, arith}
 use Rattle.std.specs.List.{remove}
 use Rattle.std.proofs.lemmas.Bool.{and_parts, and_from, cond_both}
-use Rattle.register.specs.Keys.{placed, each}
+use Rattle.register.specs.Keys.{placed, each, each_changed}
 
 module _ {X : Type 0} (test : X → Bool) where
   first : (x : X) (xs : List X) → each test (x ∷ xs) ≡ true → (test x ≡ true) × (each test xs ≡ true)
@@ -35,6 +35,7 @@ module _ {X : Type 0} (test : X → Bool) where
       (λ _. with_first x (placed key a xs) (first x xs e).0 (each_placed key a xs t (first x xs e).1))
 
   -- a change of each element that keeps the test
-  pub each_map : (f : X → X) → ((x : X) → test (f x) ≡ test x) → (xs : List X) → each test (map f xs) ≡ each test xs
-  each_map f same [] = refl
-  each_map f same (x ∷ xs) = ap (λ b. b && each test (map f xs)) (same x) ∙ ap (λ b. test x && b) (each_map f same xs)
+  pub each-changed : (f : ℕ → X → X) → ((i : ℕ) (x : X) → test (f i x) ≡ test x) → (xs : List X) → each test (each_changed f xs) ≡ each test xs
+  each-changed f same [] = refl
+  each-changed f same (x ∷ xs) =
+      ap (λ b. b && each test (each_changed (λ i. f (suc i)) xs)) (same 0 x) ∙ ap (λ b. test x && b) (each-changed (λ i. f (suc i)) (λ i. same (suc i)) xs)

@@ -1,6 +1,8 @@
-pub mod Laws
+pub mod Found
 pub mod Moves
+pub mod Placed
+pub mod Same
+pub mod Changed
+pub mod Vacant
 pub mod Orders
-pub mod Held
-pub mod Kept
 pub mod Each

@@ -1,5 +1,8 @@
 -- Lists of elements that have a key each: where a key stands, and where an element goes.
-use Rattle.std.specs.Prelude.{ℕ, ◌+◌, Bool, true, cond, ◌&&◌, List, [], ◌∷◌, Some, None, Option, ◌==◌, nat_lt}
+use Rattle.std.specs.Prelude.{ℕ, suc, ◌+◌, Bool, true, cond, ◌&&◌, List, [], ◌∷◌, Some, None, Option, ◌==◌, nat_le, nat_lt}
+use Rattle.std.specs.List.{find}
+-- whether every element passes a test
+pub use Rattle.std.specs.List.{list_all as each}
 
 -- a place that is counted from n elements further on
 abbrev pub further : ℕ → Option ℕ → Option ℕ
@@ -38,10 +41,9 @@ climbs key low (x ∷ xs) = nat_lt low (key x) && climbs key (key x) xs
 
 -- the first element whose key is at or above k
 abbrev pub first_from : {X : Type 0} → (X → ℕ) → ℕ → List X → Option X
-first_from key k [] = None
-first_from key k (x ∷ xs) = cond (nat_lt (key x) k) (first_from key k xs) (Some x)
+first_from key k = find (λ x. nat_le k (key x))
 
--- whether every element passes a test
-abbrev pub each : {X : Type 0} → (X → Bool) → List X → Bool
-each test [] = true
-each test (x ∷ xs) = test x && each test xs
+-- each element changed, by what f gives at its place
+abbrev pub each_changed : {X : Type 0} → (ℕ → X → X) → List X → List X
+each_changed f [] = []
+each_changed f (x ∷ xs) = f 0 x ∷ each_changed (λ i. f (suc i)) xs

@@ -1,12 +1,12 @@
 //! An ordered register over memory that is lent to it, for every kind of element that has a key.
 #![tactic(auto)]
 
-ghost use Rattle.std.specs.Prelude.{◌≡◌, ℕ, ◌+◌, ◌-◌, ◌<◌, ◌≤◌, true, ◌&&◌, List, [], ◌∷◌, ◌++◌, length, take, drop, replicate, if◌then◌else◌, nat_le, nat_lt, slice_set};
-ghost use Rattle.std.specs.List.{insert, remove};
-ghost use Rattle.register.specs.Keys.{place_of, first_from, rank, placed};
+ghost use Rattle.std.specs.Prelude.{◌≡◌, ℕ, ◌-◌, ◌<◌, ◌≤◌, List, [], ◌∷◌, ◌++◌, length, take, drop, replicate, is_ok, if◌then◌else◌, nat_le, nat_lt, slice_get, slice_set};
+ghost use Rattle.std.specs.List.{remove};
+ghost use Rattle.register.specs.Keys.{place_of, first_from, rank, placed, each_changed};
 
 /// An element with a key; a free place of a register holds the vacant one.
-pub trait Keyed: Copy {
+pub trait Keyed: Copy + Default {
     ghost key: { Self → ℕ };
 
     ghost vacant: { Self };
@@ -14,172 +14,166 @@ pub trait Keyed: Copy {
     fn key_of(&self) -> u16
         ensures { result ≡ key self.now };
 
-    fn vacancy() -> Self
-        ensures { result ≡ vacant };
+    ghost default_is_vacant: { (e : Self) → Self.is_default e → e ≡ vacant };
 }
 
-// The place of the first element with the key.
-fn first_at<E: Keyed>(held: &[E], key: u16) -> Option<usize>
-    ensures { result ≡ place_of E.Keyed.key key held.now }
-{
-    for (i, e) in held.iter().enumerate() {
-        if e.key_of() == key {
-            return Some(i);
-        }
-    }
-    None
+/// A change that can be made of every element. A trait, since a closure would leave it to callers that it may be called.
+pub trait Change<E> {
+    ghost gives: { Self → ℕ → E → E };
+
+    /// What comes to the place for the element that stands there.
+    fn change(&self, place: usize, element: E) -> E
+        ensures { result ≡ gives self.now place element };
 }
 
-// The first element with a key at or above this one.
-fn first_from<E: Keyed>(held: &[E], key: u16) -> Option<E>
-    ensures { result ≡ first_from E.Keyed.key key held.now }
+/// No place of the register is free.
+#[derive(Clone, Copy, PartialEq, Eq, Debug)]
+pub struct Full;
+
+// A loop, since `fill` asks that no clone fails, which no bound says.
+fn clear<E: Keyed>(places: &mut [E])
+    ensures { places.new ≡ replicate (length places.old) E.Keyed.vacant }
 {
-    for e in held {
-        if e.key_of() >= key {
-            return Some(*e);
-        }
+    for place in places.iter_mut() {
+        *place = E::default();
     }
-    None
 }
 
 // How many elements stand before the first with a key above this one.
 fn rank_of<E: Keyed>(held: &[E], key: u16) -> usize
-    ensures { result ≡ rank E.Keyed.key key held.now }
+    ensures value { result ≡ rank E.Keyed.key key held.now }
+    ensures bound { result ≤ length held.now }
 {
-    for (i, e) in held.iter().enumerate() {
-        if key < e.key_of() {
-            return i;
-        }
-    }
-    held.len()
+    held.iter()
+        .position(|e| key < e.key_of())
+        .unwrap_or(held.len())
 }
 
-// Puts an element at its place among the first `count`; those from there on move up.
-fn open_up<E: Keyed>(slots: &mut [E], place: usize, count: usize, e: E)
-    requires { (place ≤ count) × (count < length slots.old) }
-    ensures { slots.new ≡ insert (take count slots.old) place e ++ drop (count + 1) slots.old }
+// Puts an element among those before the last place, in the order of keys; those after it move up.
+fn put_in<E: Keyed>(places: &mut [E], e: E)
+    requires { 0 < length places.old }
+    ensures { places.new ≡ placed E.Keyed.key e (take (length places.old - 1) places.old) }
 {
-    slots[count] = e;
-    slots[place..count + 1].rotate_right(1);
+    let last = places.len() - 1;
+    let place = rank_of(&places[..last], e.key_of());
+    places[last] = e;
+    places[place..].rotate_right(1);
 }
 
-// Puts an element among the first `count`, in the order of keys.
-fn put_in<E: Keyed>(slots: &mut [E], count: usize, e: E)
-    requires { count < length slots.old }
-    ensures { slots.new ≡ placed E.Keyed.key e (take count slots.old) ++ drop (count + 1) slots.old }
+// Takes an element out; those after it move down, and the last place becomes vacant.
+fn take_out<E: Keyed>(places: &mut [E], place: usize)
+    requires { place < length places.old }
+    ensures { places.new ≡ remove places.old place ++ E.Keyed.vacant ∷ [] }
 {
-    let place = rank_of(&slots[0..count], e.key_of());
-    open_up(slots, place, count, e);
+    places[place] = E::default();
+    places[place..].rotate_left(1);
 }
 
-// Takes an element out of the first `count`; those after it move down, and the place left over becomes vacant.
-fn close_up<E: Keyed>(slots: &mut [E], place: usize, count: usize)
-    requires { (place < count) × (count ≤ length slots.old) }
-    ensures { slots.new ≡ remove (take count slots.old) place ++ E.Keyed.vacant ∷ drop count slots.old }
+// Puts what a change gives in the place of each element.
+fn change_all<E: Copy, C: Change<E>>(elements: &mut [E], change: &C)
+    ensures { elements.new ≡ each_changed (C.gives change.now) elements.old }
 {
-    slots[place] = E::vacancy();
-    slots[place..count].rotate_left(1);
-}
-
-fn clear<E: Keyed>(slots: &mut [E])
-    ensures { slots.new ≡ replicate (length slots.old) E.Keyed.vacant }
-{
-    for e in slots.iter_mut() {
-        *e = E::vacancy();
+    for (place, e) in elements.iter_mut().enumerate() {
+        *e = change.change(place, *e);
     }
 }
 
-/// The first `count` of the lent places hold the elements, the others are free.
+/// The first `count` of the lent places hold the elements, the others are free and vacant. Memory is lent, since no library here takes its own: so a
+/// count stands beside the slice, here and nowhere else.
 #[derive(Drop)]
 pub struct Register<'a, E: Keyed> {
-    pub slots: &'a mut [E],
-    pub count: usize,
+    slots: &'a mut [E],
+    count: usize,
+    ghost fits: { count ≤ length slots.now },
+    ghost rest: { drop count slots.now ≡ replicate (length slots.now - count) E.Keyed.vacant },
 }
 
 impl<'a, E: Keyed> Register<'a, E> {
+    ghost use Rattle.register.specs.Registers.{elements_of, room_of, SamePlaces};
+
     /// A register with no element: every place is made vacant.
     pub fn new(slots: &'a mut [E]) -> Register<'a, E>
-        ensures count { result.count ≡ 0 }
-        ensures slots { result.slots.now ≡ replicate (length slots.old) E.Keyed.vacant }
-        ensures name { result.slots.ghost_name ≡ slots.entry.ghost_name }
+        ensures elements { elements_of result ≡ [] }
+        ensures room { room_of result ≡ length slots.old }
+        ensures same_reference { result.slots.ghost_name ≡ slots.entry.ghost_name }
     {
         clear(&mut *slots);
         Register { slots, count: 0 }
     }
 
-    /// The elements, by rising key.
+    /// The elements, in their order.
     pub fn elements(&self) -> &[E]
-        ensures { result.now ≡ take self.now.count self.now.slots.now }
+        ensures { result.now ≡ elements_of self.now }
     {
-        let slots = &*self.slots;
-        if self.count < slots.len() {
-            &slots[0..self.count]
-        } else {
-            slots
-        }
+        &self.slots[..self.count]
     }
 
     /// Whether no place is free.
     pub fn is_full(&self) -> bool
-        ensures { result ≡ nat_le (length self.now.slots.now) self.now.count }
+        ensures { result ≡ nat_le (room_of self.now) (length (elements_of self.now)) }
     {
-        self.slots.len() <= self.count
+        self.count == self.slots.len()
     }
 
     /// The place of the first element with the key.
     pub fn place_of(&self, key: u16) -> Option<usize>
-        ensures { result ≡ place_of E.Keyed.key key (take self.now.count self.now.slots.now) }
+        ensures { result ≡ place_of E.Keyed.key key (elements_of self.now) }
     {
-        first_at(self.elements(), key)
+        self.elements().iter().position(|e| e.key_of() == key)
     }
 
     /// The first element with a key at or above this one.
     pub fn element_from(&self, key: u16) -> Option<E>
-        ensures { result ≡ first_from E.Keyed.key key (take self.now.count self.now.slots.now) }
+        ensures { result ≡ first_from E.Keyed.key key (elements_of self.now) }
     {
-        first_from(self.elements(), key)
+        self.elements().iter().find(|e| e.key_of() >= key).copied()
     }
 
-    /// Puts an element among the others, in the order of keys; those after it move up. False where no place is free.
-    pub fn insert(&mut self, e: E) -> bool
-        ensures answer { result ≡ nat_lt self.old.count (length self.old.slots.now) }
-        ensures slots { self.new.slots.now ≡ (if result then placed E.Keyed.key e (take self.old.count self.old.slots.now) ++ drop (self.old.count + 1) self.old.slots.now else self.old.slots.now) }
-        ensures count { self.new.count ≡ (if result then self.old.count + 1 else self.old.count) }
+    /// Puts an element among the others, in the order of keys; those after it move up. Refused, and nothing changes, where no place is free.
+    pub fn insert(&mut self, e: E) -> Result<(), Full>
+        ensures answer { is_ok result ≡ nat_lt (length (elements_of self.old)) (room_of self.old) }
+        ensures elements { elements_of self.new ≡ (if is_ok result then placed E.Keyed.key e (elements_of self.old) else elements_of self.old) }
+        ensures places { SamePlaces self.old self.new }
     {
-        if self.count >= self.slots.len() {
-            return false;
+        if self.is_full() {
+            return Err(Full);
         }
-        let count = self.count;
-        put_in(&mut *self.slots, count, e);
         self.count += 1;
-        true
-    }
-
-    /// Takes the element at a place out; those after it move down, and the place left over becomes vacant. False where there is none.
-    pub fn remove(&mut self, place: usize) -> bool
-        ensures answer { result ≡ (nat_lt place self.old.count && nat_le self.old.count (length self.old.slots.now)) }
-        ensures slots { self.new.slots.now ≡ (if result then remove (take self.old.count self.old.slots.now) place ++ E.Keyed.vacant ∷ drop self.old.count self.old.slots.now else self.old.slots.now) }
-        ensures count { self.new.count ≡ (if result then self.old.count - 1 else self.old.count) }
-    {
-        if place >= self.count || self.count > self.slots.len() {
-            return false;
-        }
         let count = self.count;
-        close_up(&mut *self.slots, place, count);
-        self.count -= 1;
-        true
+        put_in(&mut self.slots[..count], e);
+        Ok(())
     }
 
-    /// Puts another element at a place. False where there is none.
-    pub fn replace(&mut self, place: usize, e: E) -> bool
-        ensures answer { result ≡ (nat_lt place self.old.count && nat_le self.old.count (length self.old.slots.now)) }
-        ensures slots { self.new.slots.now ≡ (if result then slice_set self.old.slots.now place e else self.old.slots.now) }
-        ensures count { self.new.count ≡ self.old.count }
+    /// Takes the element at a place out, if there is one; those after it move down, and the place left over becomes vacant.
+    pub fn remove(&mut self, place: usize) -> Option<E>
+        ensures answer { result ≡ slice_get (elements_of self.old) place }
+        ensures elements { elements_of self.new ≡ remove (elements_of self.old) place }
+        ensures places { SamePlaces self.old self.new }
     {
-        if place >= self.count || self.count > self.slots.len() {
-            return false;
-        }
+        let e = *self.elements().get(place)?;
+        let count = self.count;
+        take_out(&mut self.slots[..count], place);
+        self.count -= 1;
+        Some(e)
+    }
+
+    /// Puts another element in the place of one, if there is one, and answers which stood there.
+    pub fn replace(&mut self, place: usize, e: E) -> Option<E>
+        ensures answer { result ≡ slice_get (elements_of self.old) place }
+        ensures elements { elements_of self.new ≡ slice_set (elements_of self.old) place e }
+        ensures places { SamePlaces self.old self.new }
+    {
+        let old = *self.elements().get(place)?;
         self.slots[place] = e;
-        true
+        Some(old)
+    }
+
+    /// Makes the change of every element. The elements are not lent as a `&mut`: past ghost fields that gets no proof.
+    pub fn change_each<C: Change<E>>(&mut self, change: &C)
+        ensures elements { elements_of self.new ≡ each_changed (C.gives change.now) (elements_of self.old) }
+        ensures places { SamePlaces self.old self.new }
+    {
+        let count = self.count;
+        change_all(&mut self.slots[..count], change);
     }
 }

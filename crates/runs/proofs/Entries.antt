@@ -7,7 +7,8 @@ use Rattle.terms.specs.declared.ground.Ground.TheVariants.{HullMissing, Neighbou
 use Rattle.terms.specs.declared.hull.Hull.{Hull}
 use Rattle.terms.specs.declared.refusal.Refusal.{Refusal}
 use Rattle.design.specs.declared.line.Line.{Line}
-use Rattle.design.specs.Lines.{mark_of, first_with, there_in}
+use Rattle.std.specs.List.{find}
+use Rattle.design.specs.Lines.{mark_of, there_in}
 use Rattle.design.specs.Settings.{Setting}
 use Rattle.design.specs.Verdicts.{names_missing, unfit, refused_by, ready_hull}
 
@@ -36,11 +37,11 @@ ready_e : Setting → Option Hull → List Entry → Result Hull Refusal
 ready_e s None es = Err (record { ground = HullMissing; at = 0 })
 ready_e s (Some h) es = refused_e NeighbourMissing (first_e (names_e es) es) (refused_e LineUnfit (first_e (unfit s h) es) (Ok h))
 
-first_is : (test : Entry → Bool) (ls : List Line) → option_map entry_of (first_with (λ l. test l.entry) ls) ≡ first_e test (map entry_of ls)
+first_is : (test : Entry → Bool) (ls : List Line) → option_map entry_of (find (λ l. test l.entry) ls) ≡ first_e test (map entry_of ls)
 unfolding first_e
 first_is test [] = refl
 first_is test (l ∷ ls) =
-    elim (test l.entry) as (λ b. option_map entry_of (cond b (Some l) (first_with (λ x. test x.entry) ls)) ≡ cond b (Some l.entry) (first_e test (map entry_of ls)))
+    elim (test l.entry) as (λ b. option_map entry_of (cond b (Some l) (find (λ x. test x.entry) ls)) ≡ cond b (Some l.entry) (first_e test (map entry_of ls)))
     [ true ↦ refl | false ↦ first_is test ls ]
 
 some_mapped : (o : Option Line) → is_some o ≡ is_some (option_map entry_of o)
@@ -49,7 +50,7 @@ some_mapped (Some l) = refl
 
 there_is : (m : ℕ) (ls : List Line) → there_in m ls ≡ there_e m (map entry_of ls)
 unfolding there_e
-there_is m ls = some_mapped (first_with (λ l. eqb (mark_of l) m) ls) ∙ ap is_some (first_is (λ e. eqb e.mark m) ls)
+there_is m ls = some_mapped (find (λ l. eqb (mark_of l) m) ls) ∙ ap is_some (first_is (λ e. eqb e.mark m) ls)
 
 names_is : (ls : List Line) (e : Entry) → names_missing ls e ≡ names_e (map entry_of ls) e
 unfolding names_e missing_e
@@ -72,10 +73,10 @@ unfolding ready_e
 ready_is s None ls = refl
 ready_is s (Some h) ls =
     let es = map entry_of ls in
-    let missing : option_map entry_of (first_with (λ l. names_missing ls l.entry) ls) ≡ first_e (names_e es) es = first_is (names_missing ls) ls ∙ first_same (names_missing ls) (names_e es) (names_is ls) es in
-    refused_is NeighbourMissing (first_with (λ l. names_missing ls l.entry) ls) (refused_by LineUnfit (first_with (λ l. unfit s h l.entry) ls) (Ok h))
-    ∙ ap (λ o. refused_e NeighbourMissing o (refused_by LineUnfit (first_with (λ l. unfit s h l.entry) ls) (Ok h))) missing
-    ∙ ap (refused_e NeighbourMissing (first_e (names_e es) es)) (refused_is LineUnfit (first_with (λ l. unfit s h l.entry) ls) (Ok h) ∙ ap (λ o. refused_e LineUnfit o (Ok h)) (first_is (unfit s h) ls))
+    let missing : option_map entry_of (find (λ l. names_missing ls l.entry) ls) ≡ first_e (names_e es) es = first_is (names_missing ls) ls ∙ first_same (names_missing ls) (names_e es) (names_is ls) es in
+    refused_is NeighbourMissing (find (λ l. names_missing ls l.entry) ls) (refused_by LineUnfit (find (λ l. unfit s h l.entry) ls) (Ok h))
+    ∙ ap (λ o. refused_e NeighbourMissing o (refused_by LineUnfit (find (λ l. unfit s h l.entry) ls) (Ok h))) missing
+    ∙ ap (refused_e NeighbourMissing (first_e (names_e es) es)) (refused_is LineUnfit (find (λ l. unfit s h l.entry) ls) (Ok h) ∙ ap (λ o. refused_e LineUnfit o (Ok h)) (first_is (unfit s h) ls))
 
 -- two sheets with the same hull and the same entered values are asked alike
 pub ready_same : (s : Setting) (o p : Option Hull) (ls ms : List Line) → p ≡ o → map entry_of ms ≡ map entry_of ls → ready_hull s p ms ≡ ready_hull s o ls

@@ -15,7 +15,8 @@ use Rattle.runs.specs.declared.step.Step.{Step}
 use Rattle.runs.specs.declared.step.Step.TheVariants.{Change, Settle}
 use Rattle.runs.specs.Runs.{Takes, Run}
 use Rattle.runs.specs.Laws.{size_or_none, size_for, lays, AllAccepted, first_refusal, LaidBack}
-use Rattle.runs.specs.Back.{SizesTo, size_at, earlier, LaidTo}
+use Rattle.std.specs.Result.{result_and}
+use Rattle.runs.specs.Back.{SizesTo, size_at, LaidTo}
 use Rattle.runs.proofs.Relaying.{Relaid, Back, back_refl, back-laid, laid-back}
 use Rattle.runs.proofs.Running.{run_more}
 
@@ -40,7 +41,7 @@ lays_more : (c : Contents) (ms : List ℕ) (m : ℕ) → lays c (ms ++ m ∷ [])
 lays_more c [] m = refl
 lays_more c (n ∷ ms) m = ap (λ (y : List Step). Change (call.Lay n (size_for n c.lines)) ∷ y) (lays_more c ms m)
 
-pub refusal_more : (rs : List Answer) (r : Answer) → first_refusal (rs ++ r ∷ []) ≡ earlier (first_refusal rs) r
+pub refusal_more : (rs : List Answer) (r : Answer) → first_refusal (rs ++ r ∷ []) ≡ result_and (first_refusal rs) r
 refusal_more [] (Ok u) = refl
 refusal_more [] (Err e) = refl
 refusal_more (Ok u ∷ rs) r = refusal_more rs r
@@ -59,7 +60,7 @@ back-answer c d m (Ok u) b = back-laid c d m b
 back-answer c d m (Err e) b = b
 
 pub laying_more : (c d after : Contents) (sizes marks : List ℕ) (i : ℕ) (first q r : Answer) → SizesTo c.lines (length c.lines) sizes → i < length marks
-    → Laying c (take i marks) first d → Does d (call.Lay (get_or marks i 0) (size_at sizes (place_of mark_of (get_or marks i 0) d.lines))) q after → r ≡ earlier first q → Laying c (take (i + 1) marks) r after
+    → Laying c (take i marks) first d → Does d (call.Lay (get_or marks i 0) (size_at sizes (place_of mark_of (get_or marks i 0) d.lines))) q after → r ≡ result_and first q → Laying c (take (i + 1) marks) r after
 laying_more c d after sizes marks i first q r all h old does e =
     let m = get_or marks i 0 in
     let n = size_for m c.lines in
@@ -68,7 +69,7 @@ laying_more c d after sizes marks i first q r all h old does e =
       laid = record {
         answers = old.laid.answers ++ q ∷ [];
         run = λ s. subst (λ (xs : List Step). Run s c xs (old.laid.answers ++ q ∷ []) after) (sym (lays_more c (take i marks) m)) (run_more s c d after (lays c (take i marks)) old.laid.answers (Change (call.Lay m n)) q (old.laid.run s) does');
-        answer = e ∙ ap (λ a. earlier a q) old.laid.answer ∙ sym (refusal_more old.laid.answers q);
+        answer = e ∙ ap (λ a. result_and a q) old.laid.answer ∙ sym (refusal_more old.laid.answers q);
       };
       back = subst (Back c) (sym does'.holds) (back-answer c d m q old.back);
     } in
@@ -79,10 +80,10 @@ all_ok [] ok = refl
 all_ok (r ∷ rs) ok = ap (λ (a : Answer). first_refusal (a ∷ rs)) ok.0 ∙ all_ok rs ok.1
 
 -- the lays, and the settle after them
-pub settled_back : (s : Setting) → Sound s → (c d after : Contents) (marks : List ℕ) (first q r : Answer) → LaidTo c marks first d → Takes s d Settle q after → r ≡ earlier first q → LaidBack s c marks r after
+pub settled_back : (s : Setting) → Sound s → (c d after : Contents) (marks : List ℕ) (first q r : Answer) → LaidTo c marks first d → Takes s d Settle q after → r ≡ result_and first q → LaidBack s c marks r after
 settled_back s sound c d after marks first q r laid takes e =
     let run = run_more s c d after (lays c marks) laid.answers Settle q (laid.run s) takes in
-    let said = e ∙ ap (λ a. earlier a q) laid.answer ∙ sym (refusal_more laid.answers q) in
+    let said = e ∙ ap (λ a. result_and a q) laid.answer ∙ sym (refusal_more laid.answers q) in
     record {
       answers = laid.answers ++ q ∷ [];
       run = run;

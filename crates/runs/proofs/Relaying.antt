@@ -19,7 +19,7 @@ use Rattle.sheet.specs.declared.call.Call.{Call}
 use Rattle.sheet.specs.declared.call.Call.TheVariants as call
 use Rattle.sheet.specs.Calls.{Answer, answer, changes}
 use Rattle.sheet.specs.Settles.{SettlesOn}
-use Rattle.sheet.proofs.Clearing.{length_scheduled, scheduled_at}
+use Rattle.sheet.proofs.Scheduling.{length_scheduled, scheduled_at}
 use Rattle.runs.specs.declared.step.Step.{Step}
 use Rattle.runs.specs.declared.step.Step.TheVariants.{Change, Settle}
 use Rattle.runs.specs.Runs.{Run}

@@ -6,13 +6,14 @@ use Rattle.terms.specs.declared.refusal.Refusal.{Refusal}
 use Rattle.terms.specs.Grounds.{number_of}
 use Rattle.design.specs.declared.line.Line.{Line}
 use Rattle.design.specs.Contents.{Contents, settled_at}
-use Rattle.design.specs.Lines.{no_line, first_with}
+use Rattle.std.specs.List.{find}
+use Rattle.design.specs.Lines.{no_line}
 use Rattle.design.specs.Schedules.{job, Schedule, Lawful, Least}
 use Rattle.design.specs.Settings.{Setting}
 use Rattle.design.specs.Verdicts.{names_missing, unfit, refused_by, ready_hull}
 use Rattle.sheet.specs.Calls.{Answer}
 use Rattle.sheet.specs.Settles.{none_lawful_at, SettlesOn}
-use Rattle.sheet.proofs.Clearing.{scheduled_at}
+use Rattle.sheet.proofs.Scheduling.{scheduled_at}
 use Rattle.runs.specs.Laws.{sizes_of, LeastWritten, SettleWritesTheLeast, LaidMore, LayingMoreLowersNothing}
 use Rattle.runs.proofs.Entries.{entry_of, ready_same}
 use Rattle.runs.proofs.Alike.{lawful_less, least_same}
@@ -42,8 +43,8 @@ ready_other : (s : Setting) (o : Option Hull) (ls : List Line) → ready_hull s 
 unfolding number
 ready_other s None ls e = let z : ◌≡◌ {A = ℕ} 31 34 = ap number e in omega arith
 ready_other s (Some h) ls e =
-    missing_other (first_with (λ l. names_missing ls l.entry) ls) (refused_by LineUnfit (first_with (λ l. unfit s h l.entry) ls) (Ok h))
-    (refused_other (first_with (λ l. unfit s h l.entry) ls) (Ok h) (two_ways h none_lawful_at)) e
+    missing_other (find (λ l. names_missing ls l.entry) ls) (refused_by LineUnfit (find (λ l. unfit s h l.entry) ls) (Ok h))
+    (refused_other (find (λ l. unfit s h l.entry) ls) (Ok h) (two_ways h none_lawful_at)) e
 
 same_refusal : (g : Refusal) (r : Answer) → r ≡ Err g → r ≡ Err none_lawful_at → ◌≡◌ {A = Result Hull Refusal} (Err g) (Err none_lawful_at)
 same_refusal g r e f = let z : g ≡ none_lawful_at = cc in ap (λ x. Err x) z

@@ -1,5 +1,5 @@
 -- Parts of laying lines back at their scheduled sizes.
-use Rattle.std.specs.Prelude.{◌≡◌, ℕ, ◌<◌, List, Some, None, Ok, Err, Option, slice_index, slice_index_or}
+use Rattle.std.specs.Prelude.{◌≡◌, ℕ, ◌<◌, List, Some, None, Option, slice_index, slice_index_or}
 use Rattle.design.specs.declared.line.Line.{Line}
 use Rattle.design.specs.Contents.{Contents}
 use Rattle.design.specs.Lines.{no_line}
@@ -16,11 +16,6 @@ SizesTo ls k sizes = (i : ℕ) → i < k → slice_index sizes i ≡ (slice_inde
 abbrev pub size_at : List ℕ → Option ℕ → ℕ
 size_at sizes None = 0
 size_at sizes (Some p) = slice_index sizes p
-
--- the first refusal of two answers
-abbrev pub earlier : Answer → Answer → Answer
-earlier (Ok u) r = r
-earlier (Err e) r = Err e
 
 -- the lays are made, one after the other, whatever the design basis, and r is the first refusal
 pub record LaidTo (c : Contents) (marks : List ℕ) (r : Answer) (after : Contents) : Type 0 where

@@ -7,27 +7,25 @@ ghost use Rattle.sheet.specs.declared.call.Call.TheVariants as asked;
 ghost use Rattle.sheet.specs.Calls.{Does};
 ghost use Rattle.sheet.specs.Sheets.{contents};
 ghost use Rattle.runs.specs.Laws.{LaidBack};
-ghost use Rattle.runs.specs.Back.{SizesTo, size_at, earlier, LaidTo};
+ghost use Rattle.runs.specs.Back.{SizesTo, size_at, LaidTo};
 
 use design::basis::{Basis, DesignBasis};
 use design::line::Line;
 use sheet::sheet::Sheet;
 use terms::book::RuleBook;
+use terms::limits::MOST_LINES;
 use terms::refusal::Refusal;
 use terms::stock::Stock;
 use trial::Lines;
 
-// The most lines of a sheet.
-const MOST: usize = 96;
-
 // The scheduled sizes of the first lines, by their places.
-fn scheduled_sizes(lines: &[Line]) -> [u16; 96]
+fn scheduled_sizes(lines: &[Line]) -> [u16; MOST_LINES]
     ensures { SizesTo lines.now (min (length lines.now) 96) result }
 {
-    let mut sizes = [0; MOST];
-    let count = lines.len().min(MOST);
-    for i in 0..count {
-        sizes[i] = lines[i].scheduled;
+    let mut sizes = [0; MOST_LINES];
+    let count = lines.len().min(MOST_LINES);
+    for (place, line) in lines[..count].iter().enumerate() {
+        sizes[place] = line.scheduled;
     }
     sizes
 }
@@ -36,10 +34,10 @@ fn scheduled_sizes(lines: &[Line]) -> [u16; 96]
 fn size_at_place(sizes: &[u16], place: Option<usize>) -> u16
     ensures { result ≡ size_at sizes.now place }
 {
-    let Some(place) = place else {
-        return 0;
-    };
-    if place < sizes.len() { sizes[place] } else { 0 }
+    match place {
+        Some(place) => sizes.get(place).copied().unwrap_or(0),
+        None => 0,
+    }
 }
 
 // Lays the line of a mark at the size that stands at its place.
@@ -50,16 +48,6 @@ fn lay_one(sheet: &mut Sheet<'_>, sizes: &[u16], mark: u16) -> Result<(), Refusa
     sheet.lay(mark, size)
 }
 
-// The first refusal of two answers.
-fn first_of(first: Result<(), Refusal>, second: Result<(), Refusal>) -> Result<(), Refusal>
-    ensures { result ≡ earlier first second }
-{
-    match first {
-        Ok(()) => second,
-        Err(refusal) => Err(refusal),
-    }
-}
-
 // Lays the lines of the marks, one after the other, at the sizes that stand at their places, and answers the first refusal.
 fn lay_each(sheet: &mut Sheet<'_>, sizes: &[u16], marks: &[u16]) -> Result<(), Refusal>
     requires { SizesTo (contents sheet.old).lines (length (contents sheet.old).lines) sizes.now }
@@ -67,7 +55,7 @@ fn lay_each(sheet: &mut Sheet<'_>, sizes: &[u16], marks: &[u16]) -> Result<(), R
 {
     let mut first = Ok(());
     for mark in marks {
-        first = first_of(first, lay_one(sheet, sizes, *mark));
+        first = first.and(lay_one(sheet, sizes, *mark));
     }
     first
 }
@@ -84,7 +72,7 @@ fn settle_back<D: DesignBasis>(
     let sizes = scheduled_sizes(sheet.lines());
     let laid = lay_each(sheet, &sizes, marks);
     let settled = sheet.settle_by(basis);
-    first_of(laid, settled)
+    laid.and(settled)
 }
 
 /// Lays the lines of these marks back at the sizes that the sheet has scheduled for them, one after the other, and settles again by the rule book and the stocks.

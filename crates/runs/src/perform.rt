@@ -38,8 +38,8 @@ fn perform_each<D: DesignBasis>(
     ensures lent { D.lenders basis.new ≡ D.lenders basis.old }
 {
     let count = steps.len().min(answers.len());
-    for i in 0..count {
-        answers[i] = perform(sheet, basis, steps[i]);
+    for (i, step) in steps[..count].iter().enumerate() {
+        answers[i] = perform(sheet, basis, *step);
     }
     count
 }

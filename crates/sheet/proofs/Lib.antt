@@ -1,3 +1,3 @@
 pub mod Places
-pub mod Clearing
-pub mod PutIn
+pub mod Scheduling
+pub mod Laying

@@ -1,18 +1,21 @@
 -- What the struct of a sheet holds.
-use Rattle.std.specs.Prelude.{◌≡◌, ℕ, ◌<◌, ◌≤◌, List, length, take, Some, None, Option, slice_index_or, slice_set}
+use Rattle.std.specs.Prelude.{◌≡◌, ℕ, ◌<◌, true, List, [], ◌∷◌, length, Some, None, Ok, Err, Result, nat_lt, slice_index_or, slice_set}
 use Rattle.std.specs.List.{remove}
 use Rattle.register.specs.Keys.{changed, without}
+use Rattle.register.specs.Registers.{elements_of, room_of}
+use Rattle.terms.specs.declared.ground.Ground.TheVariants.{MarkUnknown, SheetFull}
+use Rattle.terms.specs.declared.refusal.Refusal.{Refusal}
+use Rattle.terms.specs.Questions.{Question, ◌else◌, refusal_of}
 use Rattle.design.specs.declared.line.Line.{Line}
 use Rattle.sheet.specs.declared.sheet.Sheet.{Sheet}
-use Rattle.design.specs.Lines.{no_line, mark_of, line_of, unscheduled, scheduled_as}
-use Rattle.design.specs.Schedules.{Schedule}
+use Rattle.design.specs.Lines.{no_line, mark_of, line_of, line_kept}
 use Rattle.design.specs.Contents.{Contents}
 
 abbrev pub lines_of : Sheet → List Line
-lines_of s = take s.lines.count s.lines.slots.now
+lines_of s = elements_of s.lines
 
 abbrev pub contents : Sheet → Contents
-contents s = record { hull = s.hull; lines = lines_of s; settled = s.settled; room = length s.lines.slots.now }
+contents s = record { hull = s.hull; lines = lines_of s; settled = s.settled; room = room_of s.lines }
 
 -- the place of the line of a mark
 pub record Place (m : ℕ) (ls : List Line) (p : ℕ) : Type 0 where
@@ -22,18 +25,11 @@ pub record Place (m : ℕ) (ls : List Line) (p : ℕ) : Type 0 where
   pub change : (f : Line → Line) → changed mark_of m f ls ≡ slice_set ls p (f (slice_index_or ls p no_line))
   pub strike : without mark_of m ls ≡ remove ls p
 
-abbrev pub Found : ℕ → List Line → Option ℕ → Type 0
-Found m ls None = line_of m ls ≡ None
-Found m ls (Some p) = Place m ls p
+-- the place of the line of a mark, and the line; or the refusal at the mark where there is none
+abbrev pub Found : ℕ → List Line → Result (ℕ × Line) Refusal → Type 0
+Found m ls (Err e) = (line_of m ls ≡ None) × (e ≡ refusal_of MarkUnknown m)
+Found m ls (Ok p) = Place m ls p.0 × (p.1 ≡ slice_index_or ls p.0 no_line) × (line_kept p.1 ≡ true)
 
--- the first k lines have lost their scheduled sizes, and nothing else has changed
-pub record ClearedTo (before : List Line) (k : ℕ) (after : List Line) : Type 0 where
-  pub long : length after ≡ length before
-  pub done : (i : ℕ) → i < k → slice_index_or after i no_line ≡ unscheduled (slice_index_or before i no_line)
-  pub rest : (i : ℕ) → k ≤ i → slice_index_or after i no_line ≡ slice_index_or before i no_line
-
--- the first k lines have their sizes of a schedule, and nothing else has changed
-pub record SizedTo (before : List Line) (sizes : Schedule) (k : ℕ) (after : List Line) : Type 0 where
-  pub long : length after ≡ length before
-  pub done : (i : ℕ) → i < k → slice_index_or after i no_line ≡ scheduled_as (sizes i) (slice_index_or before i no_line)
-  pub rest : (i : ℕ) → k ≤ i → slice_index_or after i no_line ≡ slice_index_or before i no_line
+-- what is asked of a sheet before a line more is added
+abbrev pub room_questions : Contents → List Question
+room_questions c = nat_lt (length c.lines) c.room else SheetFull ∷ []

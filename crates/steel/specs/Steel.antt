@@ -6,7 +6,7 @@ use Rattle.terms.specs.declared.hull.Hull.{Hull}
 use Rattle.terms.specs.Rules.{Rules, Law}
 use Rattle.clauses.specs.Rounding.{divided_up, per_cent}
 use Rattle.clauses.specs.Panels.{bending}
-use Rattle.clauses.specs.Clauses.{Clauses, rules_by, law_by, by_kind, ◌says◌, Pull, on◌by◌to◌, by_kinds, AllRise, pulls_rise}
+use Rattle.clauses.specs.Clauses.{Clauses, Rising, rules_by, law_by, by_kind, ◌says◌, Pull, on◌by◌to◌, by_kinds, AllRise, pulls_rise}
 
 -- 7 wall stiffener, 8 inner wall stiffener
 abbrev pub stiffener : Entry → Bool
@@ -53,5 +53,8 @@ steel = rules_by clauses
 each_rises : AllRise pulls
 each_rises = ((λ m n h. h), ((λ m n h. h), ((λ m n h. omega arith), ((λ m n h. omega arith), tt))))
 
+pub rising : Rising clauses
+rising = λ line neighbour. pulls_rise line.kind neighbour.kind pulls each_rises
+
 pub steel_law : Law steel
-steel_law = law_by clauses (λ line neighbour. pulls_rise line.kind neighbour.kind pulls each_rises)
+steel_law = law_by clauses rising

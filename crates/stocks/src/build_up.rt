@@ -5,11 +5,9 @@ ghost use Rattle.terms.specs.Questions.{refusal_of};
 ghost use Rattle.stocks.specs.BuildUps.{last_size, buildable, built, built_ranged, whole_steps, StepsTo};
 
 use terms::ground::Ground;
+use terms::limits::LARGEST_SIZE;
 use terms::refusal::Refusal;
 use terms::stock::Stock;
-
-// The largest size of a stock.
-const LARGEST: u32 = 60_000;
 
 /// The sizes that can be built up from a first size by equal steps: `first`, `first + step`, and so on, `count` of them.
 #[derive(Clone, Copy)]
@@ -23,34 +21,25 @@ pub struct BuildUp {
     ghost within: { last_size first step count ≤ 60000 },
 }
 
-// The sum is taken in 32 bits, where it cannot wrap.
-fn is_buildable(first: u16, step: u16, count: u16) -> bool
-    ensures { result ≡ buildable first step count }
-{
-    first > 0 && step > 0 && count > 0 && first as u32 + (count as u32 - 1) * step as u32 <= LARGEST
-}
-
 impl BuildUp {
     /// Refused where a number is 0, or the last size is above 60,000.
     pub fn new(first: u16, step: u16, count: u16) -> Result<BuildUp, Refusal>
         ensures made { is_ok result ≡ buildable first step count }
         ensures value { MatchResult result (λ b. (b.first ≡ first) × (b.step ≡ step) × (b.count ≡ count)) (λ e. e ≡ refusal_of BuildUpOutOfRange 0) }
     {
-        if is_buildable(first, step, count) {
-            Ok(BuildUp { first, step, count })
-        } else {
-            Err(Refusal {
-                ground: Ground::BuildUpOutOfRange,
-                at: 0,
-            })
+        // The sum is taken in 32 bits, where it cannot wrap.
+        let last = u32::from(first) + u32::from(count.saturating_sub(1)) * u32::from(step);
+        if first == 0 || step == 0 || count == 0 || last > u32::from(LARGEST_SIZE) {
+            return Err(Ground::BuildUpOutOfRange.at(0));
         }
+        Ok(BuildUp { first, step, count })
     }
 
     // Whether a size so far above the first is one of the sizes.
     fn has_rise(self, rise: u16) -> bool
         ensures { result ≡ whole_steps self.step self.count rise }
     {
-        rise % self.step == 0 && rise / self.step < self.count
+        rise.is_multiple_of(self.step) && rise / self.step < self.count
     }
 
     // The steps from the first size to the smallest at or above `floor`; none where every size is below it.
@@ -58,11 +47,7 @@ impl BuildUp {
         ensures { StepsTo self.first self.step self.count floor result }
     {
         let steps = floor.saturating_sub(self.first).div_ceil(self.step);
-        if steps < self.count {
-            Some(steps)
-        } else {
-            None
-        }
+        (steps < self.count).then_some(steps)
     }
 }
 
@@ -113,10 +98,8 @@ mod tests {
 
     // The number and the place of the refusal.
     fn refusal(first: u16, step: u16, count: u16) -> Option<(u8, usize)> {
-        match BuildUp::new(first, step, count) {
-            Ok(_) => None,
-            Err(refusal) => Some((refusal.ground.number(), refusal.at)),
-        }
+        let refusal = BuildUp::new(first, step, count).err()?;
+        Some((u8::from(refusal.ground), refusal.at))
     }
 
     #[test]

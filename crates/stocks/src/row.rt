@@ -1,10 +1,11 @@
 //! A row of a stock.
+ghost use Rattle.std.proofs.Common.{rules};
 ghost use Rattle.stocks.specs.RowLists.{no_row, size_of};
 
 use register::Keyed;
 
 /// A size in the store, and the number of its article.
-#[derive(Clone, Copy)]
+#[derive(Clone, Copy, Default)]
 pub struct Row {
     pub size: u16,
     pub article: u32,
@@ -19,10 +20,5 @@ impl Keyed for Row {
         self.size
     }
 
-    fn vacancy() -> Row {
-        Row {
-            size: 0,
-            article: 0,
-        }
-    }
+    ghost default_is_vacant = { Prim.search rules };
 }

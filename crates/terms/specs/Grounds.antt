@@ -1,5 +1,5 @@
 -- The number of each ground of refusal, and how a refusal prints.
-use Rattle.std.specs.Prelude.{ℕ, List, ◌++◌, codes, decimal}
+use Rattle.std.specs.Prelude.{◌≡◌, ℕ, List, ◌++◌, codes, decimal}
 use Rattle.terms.specs.declared.ground.Ground.{Ground}
 use Rattle.terms.specs.declared.ground.Ground.TheVariants.{LengthOutOfRange, BreadthOutOfRange, DepthOutOfRange, DraughtOutOfRange, WaterUnknown, MarkZero, MarkTaken, MarkUnknown, PlaceUnknown, NeighbourIsItself, ValueOverLimit, SheetFull, SizeOverLimit, HullMissing, NeighbourMissing, LineUnfit, NoLawfulSchedule, NotSettled, TooFewRows, TooFewBytes, CommandUnknown, HullOutOfOrder, OperandsCutShort, BytesAfterEnd, EndMissing, BuildUpOutOfRange, RowSizeOutOfRange, RowSizeTaken, RowsFull, BookUnknown, InputTooLong, InputTooShort}
 use Rattle.terms.specs.declared.refusal.Refusal.{Refusal}
@@ -37,6 +37,10 @@ number_of RowsFull = 64
 number_of BookUnknown = 65
 number_of InputTooLong = 66
 number_of InputTooShort = 67
+
+-- n is the number of g, and of no other ground
+abbrev pub Numbers : Ground → ℕ → Type 0
+Numbers g n = (n ≡ number_of g) × ((other : Ground) → number_of other ≡ n → other ≡ g)
 
 abbrev pub refusal_text : Refusal → List ℕ
 refusal_text r = codes "refused " ++ (decimal (number_of r.ground) ++ (codes " at " ++ decimal r.at))

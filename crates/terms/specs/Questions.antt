@@ -46,9 +46,13 @@ hull_questions hull =
     ∷ nat_le hull.water 1 else WaterUnknown
     ∷ [])
 
+-- a line names the mark as a neighbour
+abbrev pub names : Entry → ℕ → Bool
+names line mark = line.near == mark || line.far == mark
+
 -- a line names itself as a neighbour
 abbrev pub names_itself : Entry → Bool
-names_itself line = line.near == line.mark || line.far == line.mark
+names_itself line = names line line.mark
 
 -- the other entered values keep their limits
 abbrev pub keeps_limits : Entry → Bool

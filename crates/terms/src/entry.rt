@@ -1,7 +1,9 @@
 //! What is entered of a line.
+ghost use Rattle.std.specs.Prelude.{◌≡◌};
+ghost use Rattle.terms.specs.Questions.{names};
 
 /// The entered values of one line, a plate or a stiffener. Zero may stand in each but the mark.
-#[derive(Clone, Copy)]
+#[derive(Clone, Copy, Default)]
 pub struct Entry {
     /// the line's own number, above 0
     pub mark: u16,
@@ -24,4 +26,13 @@ pub struct Entry {
     pub strength: u16,
     /// area, in dm²
     pub area: u16,
+}
+
+impl Entry {
+    /// Whether the line names the mark as a neighbour.
+    pub fn names(self, mark: u16) -> bool
+        ensures { result ≡ names self mark }
+    {
+        self.near == mark || self.far == mark
+    }
 }

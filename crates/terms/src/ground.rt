@@ -1,12 +1,12 @@
 //! The grounds of refusal, each with its number.
-ghost use Rattle.std.specs.Prelude.{◌≡◌, ◌==◌, Decides};
-ghost use Rattle.terms.specs.Grounds.{number_of};
-ghost use Rattle.std.specs.Cmp.Rules.{comparing};
-ghost use Rattle.std.proofs.Common.{rules};
-ghost use Rattle.std.specs.Cmp as Keys;
+ghost use Rattle.std.specs.Prelude.{◌≡◌};
+ghost use Rattle.terms.specs.Grounds.{Numbers};
+ghost use Rattle.terms.specs.Questions.{refusal_of};
+
+use crate::refusal::Refusal;
 
 /// Why a call is refused. The number is the case's value.
-#[derive(Clone, Copy, Eq, Debug)]
+#[derive(Clone, Copy, PartialEq, Eq, Debug)]
 pub enum Ground {
     /// the hull's length is not from 5,000 to 19,999
     LengthOutOfRange = 11,
@@ -75,24 +75,19 @@ pub enum Ground {
 }
 
 impl Ground {
-    /// The number by which users know the ground.
-    pub fn number(self) -> u8
-        ensures { result ≡ number_of self }
+    /// The refusal on this ground, at a place.
+    pub fn at(self, at: usize) -> Refusal
+        ensures { result ≡ refusal_of self at }
     {
-        self as u8
+        Refusal { ground: self, at }
     }
 }
 
-// No two grounds have one number.
-impl PartialEq for Ground {
-    ghost eq = { λ a b. number_of a == number_of b };
+/// The number by which users know the ground.
+impl From<Ground> for u8 {
+    ghost from_gives = { Numbers };
 
-    ghost laws = { Keys.partial_equiv_from_equiv (Prim.search (comparing, rules)) };
-
-    fn eq(&self, other: &Ground) -> bool
-        ensures value { result ≡ (number_of self.now == number_of other.now) }
-        ensures decides { Decides result (self.now ≡ other.now) }
-    {
-        self.number() == other.number()
+    fn from(ground: Ground) -> u8 {
+        ground as u8
     }
 }

@@ -1,10 +1,17 @@
 //! The limits within which a hull and the values of a line are accepted.
 ghost use Rattle.std.specs.Prelude.{◌≡◌};
-ghost use Rattle.terms.specs.Questions.{first_no, between, hull_questions, names_itself, keeps_limits, value_questions};
+ghost use Rattle.terms.specs.Questions.{first_no, between, hull_questions, refused_at, keeps_limits, value_questions};
 
 use crate::entry::Entry;
 use crate::ground::Ground;
 use crate::hull::Hull;
+use crate::refusal::Refusal;
+
+/// The largest size.
+pub const LARGEST_SIZE: u16 = 60_000;
+
+/// The most lines of a sheet.
+pub const MOST_LINES: usize = 96;
 
 fn is_between(low: u16, high: u16, n: u16) -> bool
     ensures { result ≡ between low high n }
@@ -12,53 +19,53 @@ fn is_between(low: u16, high: u16, n: u16) -> bool
     low <= n && n <= high
 }
 
-fn is_own_neighbour(line: Entry) -> bool
-    ensures { result ≡ names_itself line }
-{
-    line.near == line.mark || line.far == line.mark
-}
-
-fn is_within_limits(line: Entry) -> bool
-    ensures { result ≡ keeps_limits line }
-{
-    line.spacing <= 1_000
-        && line.span <= 5_000
-        && line.height <= 4_000
-        && line.pressure <= 100
-        && line.strength <= 500
-        && line.area <= 10_000
-}
-
-/// The first ground on which a hull is refused.
-pub fn hull_fault(hull: Hull) -> Option<Ground>
-    ensures { result ≡ first_no (hull_questions hull) }
-{
-    if !is_between(5_000, 19_999, hull.length) {
-        Some(Ground::LengthOutOfRange)
-    } else if !is_between(1_000, 8_000, hull.breadth) {
-        Some(Ground::BreadthOutOfRange)
-    } else if !is_between(400, 4_000, hull.depth) {
-        Some(Ground::DepthOutOfRange)
-    } else if !is_between(100, hull.depth, hull.draught) {
-        Some(Ground::DraughtOutOfRange)
-    } else if hull.water > 1 {
-        Some(Ground::WaterUnknown)
-    } else {
-        None
+impl Hull {
+    /// Refused at 0 on the first ground on which a hull is.
+    pub fn check_limits(self) -> Result<(), Refusal>
+        ensures { result ≡ refused_at 0 (first_no (hull_questions self)) }
+    {
+        if !is_between(5_000, 19_999, self.length) {
+            Err(Ground::LengthOutOfRange.at(0))
+        } else if !is_between(1_000, 8_000, self.breadth) {
+            Err(Ground::BreadthOutOfRange.at(0))
+        } else if !is_between(400, 4_000, self.depth) {
+            Err(Ground::DepthOutOfRange.at(0))
+        } else if !is_between(100, self.depth, self.draught) {
+            Err(Ground::DraughtOutOfRange.at(0))
+        } else if self.water > 1 {
+            Err(Ground::WaterUnknown.at(0))
+        } else {
+            Ok(())
+        }
     }
 }
 
-/// The first ground on which the entered values of a line are refused, whatever its mark.
-pub fn value_fault(line: Entry) -> Option<Ground>
-    ensures { result ≡ first_no (value_questions line) }
-{
-    if line.place > 2 {
-        Some(Ground::PlaceUnknown)
-    } else if is_own_neighbour(line) {
-        Some(Ground::NeighbourIsItself)
-    } else if !is_within_limits(line) {
-        Some(Ground::ValueOverLimit)
-    } else {
-        None
+impl Entry {
+    // Whether each of the other values is at most its limit.
+    fn is_within_limits(self) -> bool
+        ensures { result ≡ keeps_limits self }
+    {
+        self.spacing <= 1_000
+            && self.span <= 5_000
+            && self.height <= 4_000
+            && self.pressure <= 100
+            && self.strength <= 500
+            && self.area <= 10_000
+    }
+
+    /// Refused at its mark on the first ground on which the entered values of a line are, whatever its mark.
+    pub fn check_limits(self) -> Result<(), Refusal>
+        ensures { result ≡ refused_at self.mark (first_no (value_questions self)) }
+    {
+        let at = usize::from(self.mark);
+        if self.place > 2 {
+            Err(Ground::PlaceUnknown.at(at))
+        } else if self.names(self.mark) {
+            Err(Ground::NeighbourIsItself.at(at))
+        } else if !self.is_within_limits() {
+            Err(Ground::ValueOverLimit.at(at))
+        } else {
+            Ok(())
+        }
     }
 }

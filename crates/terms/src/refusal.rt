@@ -16,7 +16,7 @@ impl fmt::Display for Refusal {
     ghost output = { λ r. Some (refusal_text r) };
 
     fn fmt<W: fmt::Write>(&self, f: &mut fmt::Formatter<W>) -> fmt::Result {
-        let number = self.ground.number();
+        let number = u8::from(self.ground);
         let at = self.at;
         write!(f, "refused {number} at {at}")
     }

@@ -1,26 +1,53 @@
--- What a trial makes of the lines, said by the place where it lays its size.
-use Rattle.std.proofs.Common.{◌≡◌, ℕ, Bool, true, false, cond, leb, [], ◌∷◌, length, get_or, is_some, Some, None, Option, sym, refl, ap, ◌∙◌, arith}
-use Rattle.std.proofs.lemmas.List.{set_past}
+-- What a trial answers, and what it makes of the lines, said by the place where it lays its size.
+use Rattle.std.proofs.Common.{◌≡◌, ℕ, ◌<◌, ◌≤◌, Bool, true, false, cond, not, leb, List, [], ◌∷◌, is_some, is_ok, Some, None, Ok, Err, Option, Result, sym, refl, ap, ◌∙◌, subst, le-leb}
+use borrow.Author.Tests.{lt-leb}
+use Rattle.std.proofs.lemmas.Bool.{both_ways}
 use Rattle.register.specs.Keys.{place_of, changed}
 use Rattle.register.proofs.Orders.{found}
+use Rattle.terms.specs.declared.ground.Ground.{Ground}
 use Rattle.terms.specs.declared.ground.Ground.TheVariants.{MarkUnknown, SizeOverLimit}
-use Rattle.terms.specs.Questions.{◌else◌, all_yes}
+use Rattle.terms.specs.declared.refusal.Refusal.{Refusal}
+use Rattle.terms.specs.Questions.{Question, ◌else◌, first_no, all_yes, refusal_of, refused_at}
 use Rattle.design.specs.Contents.{Contents, with_lines}
-use Rattle.design.specs.Lines.{no_line, mark_of, laid_as}
-use Rattle.design.proofs.Places.{at_place, line_is}
-use Rattle.trial.specs.Trials.{tried, laid_at, lay_at, place_or, trial_place}
+use Rattle.design.specs.Lines.{mark_of, laid_as, lay_questions, no_line}
+use Rattle.design.proofs.Places.{there_is}
+use Rattle.trial.specs.Trials.{trial_answer, tried, lay_at, laid_at, MayLay}
+
+-- whoever is refused changes nothing
+idle_by : {X : Type 0} (at : ℕ) (o : Option Ground) (e : Refusal) (x y : X) → refused_at at o ≡ Err e → cond (not (is_some o)) x y ≡ y
+idle_by at None e x y is = absurd (both_ways false refl (sym (ap is_ok is)))
+idle_by at (Some g) e x y is = refl
 
 module _ (c : Contents) (m n : ℕ) where
-  -- the place and the limit on the left, the two questions on the right
-  by_place : (o : Option ℕ) (b : Bool) → place_of mark_of m c.lines ≡ o
-      → with_lines c (cond b (laid_at c.lines (cond b (place_or o (length c.lines)) (length c.lines)) n) c.lines)
-      ≡ cond (all_yes (is_some (at_place o c.lines) else MarkUnknown ∷ b else SizeOverLimit ∷ [])) (with_lines c (changed mark_of m (laid_as n) c.lines)) c
-  by_place (Some p) true e = ap (with_lines c) ((found mark_of m c.lines p e).put (laid_as n) no_line)
-  by_place (Some p) false e = refl
-  by_place None true e = ap (with_lines c) (set_past c.lines (length c.lines) (laid_as n (get_or c.lines (length c.lines) no_line)) (omega arith))
-  by_place None false e = refl
+  -- the two questions of a trial, by the place of the line and by the limit
+  abbrev asked : Option ℕ → Bool → List Question
+  asked o b = is_some o else MarkUnknown ∷ b else SizeOverLimit ∷ []
 
-  pub lines-tried : with_lines c (lay_at c.lines (trial_place c.lines m n) n) ≡ tried c m n
-  lines-tried =
-      by_place (place_of mark_of m c.lines) (leb n 60000) refl
-      ∙ ap (λ o. cond (all_yes (is_some o else MarkUnknown ∷ leb n 60000 else SizeOverLimit ∷ [])) (with_lines c (changed mark_of m (laid_as n) c.lines)) c) (sym (line_is m c.lines))
+  by_place : (o : Option ℕ) → place_of mark_of m c.lines ≡ o → lay_questions c.lines m n ≡ asked o (leb n 60000)
+  by_place o e = ap (λ t. t else MarkUnknown ∷ leb n 60000 else SizeOverLimit ∷ []) (there_is m c.lines) ∙ ap (λ p. asked p (leb n 60000)) e
+
+  pub unknown : place_of mark_of m c.lines ≡ None → trial_answer c m n ≡ Err (refusal_of MarkUnknown m)
+  unknown e = ap (λ qs. refused_at m (first_no qs)) (by_place None e)
+
+  -- a refusal of the trial
+  pub refused : (e : Refusal) (r : Result ℕ Refusal) → trial_answer c m n ≡ Err e → r ≡ Err e → MayLay c m n r
+  refused e r is answer = subst (MayLay c m n) (sym answer) is
+
+  module _ (p : ℕ) (e : place_of mark_of m c.lines ≡ Some p) where
+    known : (b : Bool) → leb n 60000 ≡ b → lay_questions c.lines m n ≡ asked (Some p) b
+    known b is = by_place (Some p) e ∙ ap (asked (Some p)) is
+
+    pub too_large : 60000 < n → trial_answer c m n ≡ Err (refusal_of SizeOverLimit m)
+    too_large h = ap (λ qs. refused_at m (first_no qs)) (known _ (lt-leb n 60000 h))
+
+    pub begins : n ≤ 60000 → trial_answer c m n ≡ Ok tt
+    begins h = ap (λ qs. refused_at m (first_no qs)) (known true (le-leb n 60000 h))
+
+    pub lines-tried : n ≤ 60000 → with_lines c (lay_at c.lines p n) ≡ tried c m n
+    lines-tried h =
+        ap (λ b. with_lines c (cond b (laid_at c.lines p n) c.lines)) (le-leb n 60000 h)
+        ∙ ap (with_lines c) ((found mark_of m c.lines p e).put (laid_as n) no_line)
+        ∙ sym (ap (λ qs. cond (all_yes qs) (with_lines c (changed mark_of m (laid_as n) c.lines)) c) (known true (le-leb n 60000 h)))
+
+  pub idle : (e : Refusal) → trial_answer c m n ≡ Err e → c ≡ tried c m n
+  idle e is = sym (idle_by m (first_no (lay_questions c.lines m n)) e (with_lines c (changed mark_of m (laid_as n) c.lines)) c is)

@@ -1,10 +1,11 @@
 -- Whether a trial may begin, and what it makes of a sheet.
-use Rattle.std.specs.Prelude.{ℕ, cond, List, length, Some, None, Option, Result, nat_le, slice_index_or, slice_set}
+use Rattle.std.specs.Prelude.{◌≡◌, ℕ, ◌≤◌, cond, List, Some, None, Ok, Err, Option, Result, nat_le, slice_index_or, slice_set}
 use Rattle.register.specs.Keys.{place_of, changed}
 use Rattle.terms.specs.declared.refusal.Refusal.{Refusal}
 use Rattle.terms.specs.Questions.{first_no, all_yes, refused_at}
 use Rattle.design.specs.declared.line.Line.{Line}
 use Rattle.design.specs.Contents.{Contents, with_lines}
+use Rattle.trial.specs.declared.Earlier.{Earlier}
 use Rattle.design.specs.Lines.{no_line, mark_of, laid_as, lay_questions}
 
 -- a trial may begin where the size could be laid
@@ -24,10 +25,12 @@ laid_at ls i n = slice_set ls i (laid_as n (slice_index_or ls i no_line))
 abbrev pub lay_at : List Line → ℕ → ℕ → List Line
 lay_at ls i n = cond (nat_le n 60000) (laid_at ls i n) ls
 
-abbrev pub place_or : Option ℕ → ℕ → ℕ
-place_or None n = n
-place_or (Some i) n = i
+-- the place where a trial lays its size: that of the line of the mark, where it may begin; else it is refused
+abbrev pub MayLay : Contents → ℕ → ℕ → Result ℕ Refusal → Type 0
+MayLay c m n (Ok i) = (place_of mark_of m c.lines ≡ Some i) × (n ≤ 60000)
+MayLay c m n (Err e) = trial_answer c m n ≡ Err e
 
--- where a trial lays its size: past the end if it is idle
-abbrev pub trial_place : List Line → ℕ → ℕ → ℕ
-trial_place ls m n = cond (nat_le n 60000) (place_or (place_of mark_of m ls) (length ls)) (length ls)
+-- what the end of a trial leaves, by what it is to lay a size at a place: what lay there is laid again; nothing at all where the trial was idle
+abbrev pub Restored : {S : Type 0} → (S → ℕ → ℕ → S → Type 0) → S → Option Earlier → S → Type 0
+Restored laid s None t = t ≡ s
+Restored laid s (Some e) t = laid s e.place e.size t

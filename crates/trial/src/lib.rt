@@ -4,10 +4,10 @@
 ghost use Rattle.std.specs.Prelude.{◌≡◌, ℕ};
 ghost use Rattle.register.specs.Keys.{place_of};
 ghost use Rattle.design.specs.Contents.{Contents, with_lines};
-ghost use Rattle.design.specs.Lines.{mark_of, there_in};
+ghost use Rattle.design.specs.Lines.{mark_of};
 ghost use Rattle.design.specs.Settings.{set_by};
 ghost use Rattle.design.specs.Verdicts.{Checks};
-ghost use Rattle.trial.specs.Trials.{trial_answer, tried, lay_at, trial_place};
+ghost use Rattle.trial.specs.Trials.{trial_answer, tried, lay_at, Restored, MayLay};
 
 use design::basis::Basis;
 use design::check::check_lines;
@@ -16,11 +16,9 @@ use design::verdict::Verdict;
 use terms::book::RuleBook;
 use terms::ground::Ground;
 use terms::hull::Hull;
+use terms::limits::LARGEST_SIZE;
 use terms::refusal::Refusal;
 use terms::stock::Stock;
-
-// The largest size that may be laid.
-const LARGEST: u16 = 60_000;
 
 /// What holds lines, to those who hold a trial on it.
 pub trait Lines {
@@ -54,60 +52,41 @@ pub struct Key {
     of_trial: (),
 }
 
-/// A size that is laid on one line until the trial ends, on whatever way: then the earlier laid size is put back. An idle trial has a place past the end.
+// What lay at a place before a trial.
+#[derive(Clone, Copy)]
+struct Earlier {
+    place: usize,
+    size: u16,
+}
+
+/// A size that is laid on one line until the trial ends, on whatever way: then the earlier laid size is put back. An idle trial has laid nothing.
 pub struct Trial<'t, S: Lines> {
     lines: &'t mut S,
-    place: usize,
-    old: u16,
+    earlier: Option<Earlier>,
 }
 
 impl<'t, S: Lines> Drop for Trial<'t, S> {
     fn drop(self)
-        ensures { S.Lines.laid self.entry.lines.now self.entry.place self.entry.old self.exit.0.now }
+        ensures { Restored S.Lines.laid self.entry.lines.now self.entry.earlier self.exit.0.now }
     {
-        let Trial { lines, place, old } = self;
-        let _ = lines.put_at(Key { of_trial: () }, place, old);
+        let Trial { lines, earlier } = self;
+        if let Some(Earlier { place, size }) = earlier {
+            let _ = lines.put_at(Key { of_trial: () }, place, size);
+        }
     }
 }
 
-fn has_line<S: Lines>(lines: &S, mark: u16) -> bool
-    ensures { result ≡ there_in mark (S.Lines.contents lines.now).lines }
+// The place at which a trial of the size on the line of the mark lays it, if it may begin.
+fn place_for<S: Lines>(lines: &S, mark: u16, size: u16) -> Result<usize, Refusal>
+    ensures { MayLay (S.Lines.contents lines.now) mark size result }
 {
-    lines.place_of(mark).is_some()
-}
-
-// Whether a trial of the size on the line of the mark may begin.
-fn may_begin<S: Lines>(lines: &S, mark: u16, size: u16) -> Result<(), Refusal>
-    ensures { result ≡ trial_answer (S.Lines.contents lines.now) mark size }
-{
-    let at = mark as usize;
-    if !has_line(lines, mark) {
-        return Err(Refusal {
-            ground: Ground::MarkUnknown,
-            at,
-        });
+    let at = usize::from(mark);
+    let found = lines.place_of(mark);
+    let place = found.ok_or(Ground::MarkUnknown.at(at))?;
+    if size > LARGEST_SIZE {
+        return Err(Ground::SizeOverLimit.at(at));
     }
-    if size > LARGEST {
-        return Err(Refusal {
-            ground: Ground::SizeOverLimit,
-            at,
-        });
-    }
-    Ok(())
-}
-
-// Where a trial lays its size: past the end if no line has the mark, or the size is above the largest.
-fn place_of_trial<S: Lines>(lines: &S, mark: u16, size: u16) -> usize
-    ensures { result ≡ trial_place (S.Lines.contents lines.now).lines mark size }
-{
-    let past = lines.lines().len();
-    if size > LARGEST {
-        return past;
-    }
-    match lines.place_of(mark) {
-        Some(place) => place,
-        None => past,
-    }
+    Ok(place)
 }
 
 impl<'t, S: Lines> Trial<'t, S> {
@@ -115,11 +94,22 @@ impl<'t, S: Lines> Trial<'t, S> {
     pub fn begin(lines: &'t mut S, mark: u16, size: u16) -> Trial<'t, S>
         ensures name { result.lines.ghost_name ≡ lines.entry.ghost_name }
         ensures tried { S.Lines.contents result.lines.now ≡ tried (S.Lines.contents lines.old) mark size }
-        ensures back { (t : S) → S.Lines.laid result.lines.now result.place result.old t → t ≡ lines.old }
+        ensures back { (t : S) → Restored S.Lines.laid result.lines.now result.earlier t → t ≡ lines.old }
     {
-        let place = place_of_trial(&*lines, mark, size);
-        let old = lines.put_at(Key { of_trial: () }, place, size);
-        Trial { lines, place, old }
+        let Ok(place) = place_for(&*lines, mark, size) else {
+            return Trial {
+                lines,
+                earlier: None,
+            };
+        };
+        let earlier = lines.put_at(Key { of_trial: () }, place, size);
+        Trial {
+            lines,
+            earlier: Some(Earlier {
+                place,
+                size: earlier,
+            }),
+        }
     }
 
     /// The lines under the trial, by rising mark.
@@ -162,12 +152,13 @@ pub trait Trying: Lines {
         Self: Sized,
         ensures name { result.lines.ghost_name ≡ self.entry.ghost_name }
         ensures tried { Self.Lines.contents result.lines.now ≡ tried (Self.Lines.contents self.old) mark size }
-        ensures back { (t : Self) → Self.Lines.laid result.lines.now result.place result.old t → t ≡ self.old };
+        ensures back { (t : Self) → Restored Self.Lines.laid result.lines.now result.earlier t → t ≡ self.old };
 }
 
 impl<S: Lines> Trying for S {
     fn may_try(&self, mark: u16, size: u16) -> Result<(), Refusal> {
-        may_begin(self, mark, size)
+        place_for(self, mark, size)?;
+        Ok(())
     }
 
     fn trial(&mut self, mark: u16, size: u16) -> Trial<'_, Self> {

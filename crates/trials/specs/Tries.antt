@@ -2,25 +2,23 @@
 use Rattle.std.specs.Prelude.{◌≡◌, ℕ, ◌<◌, Bool, true, false, List, length, Some, None, Ok, Err, Option, Result, slice_index}
 use Rattle.terms.specs.declared.refusal.Refusal.{Refusal}
 use Rattle.design.specs.declared.verdict.Failure.{Failure}
-use Rattle.design.specs.declared.verdict.Verdict.{Verdict}
-use Rattle.design.specs.declared.verdict.Verdict.TheVariants.{Passes, Fails}
 use Rattle.design.specs.Contents.{Contents}
 use Rattle.design.specs.Settings.{Setting}
 use Rattle.design.specs.Verdicts.{Checks}
 use Rattle.trial.specs.Trials.{trial_answer, tried}
 
-abbrev pub TriedOn : Setting → Contents → Result (Unit {0}) Refusal → Result Verdict Refusal → Type 0
+abbrev pub TriedOn : Setting → Contents → Result (Unit {0}) Refusal → Result (Result (Unit {0}) Failure) Refusal → Type 0
 TriedOn s c (Err e) r = r ≡ Err e
 TriedOn s c (Ok u) r = Checks s c.hull c.lines r
 
 -- refused where the trial may not begin; else what a check says of the sheet under the trial
-abbrev pub Tries : Setting → Contents → ℕ → ℕ → Result Verdict Refusal → Type 0
+abbrev pub Tries : Setting → Contents → ℕ → ℕ → Result (Result (Unit {0}) Failure) Refusal → Type 0
 Tries s c m n r = TriedOn s (tried c m n) (trial_answer c m n) r
 
 -- whether the design passes with the size
 abbrev pub Passing : Setting → Contents → ℕ → ℕ → Result Bool Refusal → Type 0
-Passing s c m n (Ok true) = Tries s c m n (Ok Passes)
-Passing s c m n (Ok false) = (f : Failure) × Tries s c m n (Ok (Fails f))
+Passing s c m n (Ok true) = Tries s c m n (Ok (Ok tt))
+Passing s c m n (Ok false) = (f : Failure) × Tries s c m n (Ok (Err f))
 Passing s c m n (Err e) = Tries s c m n (Err e)
 
 -- with each of the first k sizes the design fails

@@ -33,7 +33,7 @@ pub fn verdict_with<L: Lines, B: RuleBook, P: Stock, S: Stock>(
     trial.check(book, plates, stiffeners)
 }
 
-/// The same on a sheet, which is exactly what it was.
+/// The same on a sheet, which is exactly what it was. A function of its own, so that the promise stands on a call that takes a sheet.
 pub fn sheet_verdict_with<B: RuleBook, P: Stock, S: Stock>(
     sheet: &mut Sheet<'_>,
     book: &mut B,
@@ -68,10 +68,8 @@ pub fn passes_with<L: Lines, B: RuleBook, P: Stock, S: Stock>(
 {
     lines.may_try(mark, size)?;
     let trial = lines.trial(mark, size);
-    match trial.check(book, plates, stiffeners)? {
-        Verdict::Passes => Ok(true),
-        Verdict::Fails(_) => Ok(false),
-    }
+    let verdict = trial.check(book, plates, stiffeners)?;
+    Ok(verdict.is_ok())
 }
 
 /// The first of some sizes for the line of the mark with which the design passes; refused where a size before it could not be laid, or the

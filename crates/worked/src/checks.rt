@@ -1,4 +1,5 @@
 //! Designs that were judged by hand, by the steel and the plastic book.
+use clauses::book::ByClauses;
 use design::line::Line;
 use design::verdict::Verdict;
 use plastic::Plastic;
@@ -28,13 +29,13 @@ pub const BOAT: Hull = Hull {
 
 fn said(answer: Result<Verdict, Refusal>) -> Said {
     match answer {
-        Ok(Verdict::Passes) => PASSES,
-        Ok(Verdict::Fails(failure)) => (
+        Ok(Ok(())) => PASSES,
+        Ok(Err(failure)) => (
             failure.mark as usize,
-            failure.ground.number(),
+            u8::from(failure.ground),
             failure.neighbour,
         ),
-        Err(refusal) => (refusal.at, refusal.ground.number(), 0),
+        Err(refusal) => (refusal.at, u8::from(refusal.ground), 0),
     }
 }
 
@@ -100,7 +101,7 @@ fn steel(laid: [u16; 4]) -> Result<Said, Fail> {
     let mut plates = Rows::new(&mut room);
     rows(&mut plates)?;
     let mut stiffeners = BuildUp::new(100, 100, 100)?;
-    Ok(said(sheet.check(&mut Steel, &mut plates, &mut stiffeners)))
+    Ok(said(sheet.check(&mut ByClauses(Steel), &mut plates, &mut stiffeners)))
 }
 
 #[test]
@@ -134,7 +135,7 @@ fn plastic(laid: [u16; 5], keelson_names: bool) -> Result<Said, Fail> {
     )?;
     let mut plates = BuildUp::new(200, 150, 20)?;
     let mut stiffeners = BuildUp::new(100, 100, 100)?;
-    Ok(said(sheet.check(&mut Plastic, &mut plates, &mut stiffeners)))
+    Ok(said(sheet.check(&mut ByClauses(Plastic), &mut plates, &mut stiffeners)))
 }
 
 #[test]
@@ -161,22 +162,22 @@ fn refused_checks(rt: HostRuntime) -> Result<(), Fail> {
     sheet.enter(entry(8, 78, 0, 0, 99))?;
     sheet.enter(entry(9, 21, 0, 98, 0))?;
     assert_eq!(rt;
-        said(sheet.check(&mut Plastic, &mut plates, &mut stiffeners)),
+        said(sheet.check(&mut ByClauses(Plastic), &mut plates, &mut stiffeners)),
         (0, 31, 0)
     );
     sheet.set_hull(BOAT)?;
     assert_eq!(rt;
-        said(sheet.check(&mut Plastic, &mut plates, &mut stiffeners)),
+        said(sheet.check(&mut ByClauses(Plastic), &mut plates, &mut stiffeners)),
         (8, 32, 0)
     );
     sheet.amend(entry(8, 78, 0, 0, 0))?;
     assert_eq!(rt;
-        said(sheet.check(&mut Plastic, &mut plates, &mut stiffeners)),
+        said(sheet.check(&mut ByClauses(Plastic), &mut plates, &mut stiffeners)),
         (9, 32, 0)
     );
     sheet.amend(entry(9, 21, 0, 7, 8))?;
     assert_eq!(rt;
-        said(sheet.check(&mut Plastic, &mut plates, &mut stiffeners)),
+        said(sheet.check(&mut ByClauses(Plastic), &mut plates, &mut stiffeners)),
         (7, 33, 0)
     );
     Ok(())
@@ -199,7 +200,7 @@ fn tried_sizes(rt: HostRuntime) -> Result<(), Fail> {
     )?;
     let first = first_passing(
         &mut sheet,
-        &mut Plastic,
+        &mut ByClauses(Plastic),
         &mut plates,
         &mut stiffeners,
         30,
@@ -209,7 +210,7 @@ fn tried_sizes(rt: HostRuntime) -> Result<(), Fail> {
     assert_eq!(rt;
         said(sheet_verdict_with(
             &mut sheet,
-            &mut Plastic,
+            &mut ByClauses(Plastic),
             &mut plates,
             &mut stiffeners,
             10,
@@ -220,7 +221,7 @@ fn tried_sizes(rt: HostRuntime) -> Result<(), Fail> {
     assert_eq!(rt;
         said(sheet_verdict_with(
             &mut sheet,
-            &mut Plastic,
+            &mut ByClauses(Plastic),
             &mut plates,
             &mut stiffeners,
             99,
@@ -231,7 +232,7 @@ fn tried_sizes(rt: HostRuntime) -> Result<(), Fail> {
     assert_eq!(rt;
         said(sheet_verdict_with(
             &mut sheet,
-            &mut Plastic,
+            &mut ByClauses(Plastic),
             &mut plates,
             &mut stiffeners,
             10,
@@ -240,7 +241,7 @@ fn tried_sizes(rt: HostRuntime) -> Result<(), Fail> {
         (10, 28, 0)
     );
     assert_eq!(rt;
-        said(sheet.check(&mut Plastic, &mut plates, &mut stiffeners)),
+        said(sheet.check(&mut ByClauses(Plastic), &mut plates, &mut stiffeners)),
         (30, 3, 10)
     );
     Ok(())

@@ -1,4 +1,5 @@
 //! A rule book that keeps count of its questions.
+use clauses::book::ByClauses;
 use steel::Steel;
 use terms::book::RuleBook;
 use terms::entry::Entry;
@@ -51,17 +52,9 @@ fn a_book_may_count(rt: HostRuntime) {
     let wall = Entry {
         mark: 1,
         kind: 4,
-        place: 0,
-        near: 0,
-        far: 0,
-        spacing: 0,
-        span: 0,
-        pressure: 0,
-        height: 0,
-        strength: 0,
-        area: 0,
+        ..Entry::default()
     };
-    let mut book = Steel;
+    let mut book = ByClauses(Steel);
     let mut counted = Counted {
         book: &mut book,
         asked: 0,

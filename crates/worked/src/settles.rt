@@ -1,5 +1,6 @@
 //! Sheets that were settled by hand.
 use crate::checks::{BOAT, blank, drawn, entry, rows};
+use clauses::book::ByClauses;
 use plastic::Plastic;
 use runs::back::lay_back;
 use runs::perform::perform_all;
@@ -17,7 +18,7 @@ use terms::refusal::Refusal;
 fn refused(answer: Result<(), Refusal>) -> Option<(u8, usize)> {
     match answer {
         Ok(()) => None,
-        Err(refusal) => Some((refusal.ground.number(), refusal.at)),
+        Err(refusal) => Some((u8::from(refusal.ground), refusal.at)),
     }
 }
 
@@ -42,14 +43,14 @@ fn steel_schedule(rt: HostRuntime) -> Result<(), Fail> {
             (entry(3, 3, 0, 2, 0), 0),
         ],
     )?;
-    sheet.settle(&mut Steel, &mut plates, &mut stiffeners)?;
+    sheet.settle(&mut ByClauses(Steel), &mut plates, &mut stiffeners)?;
     assert_eq!(rt; sheet.scheduled_size(1)?, 400);
     assert_eq!(rt; sheet.scheduled_size(2)?, 400);
     assert_eq!(rt; sheet.scheduled_size(3)?, 500);
     lay_back(
         &mut sheet,
         &[3, 1, 3],
-        &mut Steel,
+        &mut ByClauses(Steel),
         &mut plates,
         &mut stiffeners,
     )?;
@@ -57,7 +58,7 @@ fn steel_schedule(rt: HostRuntime) -> Result<(), Fail> {
     assert_eq!(rt; sheet.scheduled_size(3)?, 500);
     sheet.lay(1, 500)?;
     assert_eq!(rt;
-        refused(sheet.settle(&mut Steel, &mut plates, &mut stiffeners)),
+        refused(sheet.settle(&mut ByClauses(Steel), &mut plates, &mut stiffeners)),
         Some((34, 0))
     );
     Ok(())
@@ -80,17 +81,17 @@ fn plastic_schedule(rt: HostRuntime) -> Result<(), Fail> {
             (entry(30, 29, 0, 10, 20), 0),
         ],
     )?;
-    sheet.settle(&mut Plastic, &mut plates, &mut stiffeners)?;
+    sheet.settle(&mut ByClauses(Plastic), &mut plates, &mut stiffeners)?;
     assert_eq!(rt; sheet.scheduled_size(10)?, 800);
     assert_eq!(rt; sheet.scheduled_size(20)?, 800);
     assert_eq!(rt; sheet.scheduled_size(30)?, 500);
     assert_eq!(rt;
-        refused(sheet.settle(&mut Plastic, &mut thin, &mut stiffeners)),
+        refused(sheet.settle(&mut ByClauses(Plastic), &mut thin, &mut stiffeners)),
         Some((34, 0))
     );
     assert_eq!(rt; sheet.scheduled_size(30)?, 500);
     sheet.lay(10, 1_000)?;
-    sheet.settle(&mut Plastic, &mut plates, &mut stiffeners)?;
+    sheet.settle(&mut ByClauses(Plastic), &mut plates, &mut stiffeners)?;
     assert_eq!(rt; sheet.scheduled_size(10)?, 1_100);
     assert_eq!(rt; sheet.scheduled_size(20)?, 800);
     assert_eq!(rt; sheet.scheduled_size(30)?, 650);
@@ -111,12 +112,12 @@ fn a_chain_of_96(rt: HostRuntime) -> Result<(), Fail> {
         sheet.enter(entry(mark, kind, 0, next, 0))?;
     }
     sheet.lay(96, 750)?;
-    sheet.settle(&mut Steel, &mut plates, &mut stiffeners)?;
+    sheet.settle(&mut ByClauses(Steel), &mut plates, &mut stiffeners)?;
     for mark in 1..97u16 {
         assert_eq!(rt; sheet.scheduled_size(mark)?, 800);
     }
     sheet.lay(96, 60_000)?;
-    sheet.settle(&mut Steel, &mut plates, &mut stiffeners)?;
+    sheet.settle(&mut ByClauses(Steel), &mut plates, &mut stiffeners)?;
     assert_eq!(rt; sheet.scheduled_size(1)?, 60_000);
     Ok(())
 }
@@ -144,7 +145,7 @@ fn a_run_of_calls(rt: HostRuntime) -> Result<(), Fail> {
         &mut sheet,
         &steps,
         &mut answers,
-        &mut Plastic,
+        &mut ByClauses(Plastic),
         &mut plates,
         &mut stiffeners,
     );

@@ -37,7 +37,7 @@ fn blank() -> Line {
 fn number(answer: Result<(), Refusal>) -> (u8, usize) {
     match answer {
         Ok(()) => ACCEPTED,
-        Err(refusal) => (refusal.ground.number(), refusal.at),
+        Err(refusal) => (u8::from(refusal.ground), refusal.at),
     }
 }
 
@@ -260,7 +260,7 @@ fn short_memory_and_no_schedule(rt: HostRuntime) -> Result<(), Fail> {
     assert_eq!(rt; number(sheet.enter(entry(4))), (27, 4));
     match sheet.scheduled_size(5) {
         Ok(_) => return Err(Fail::new("no schedule yet")),
-        Err(refusal) => assert_eq!(rt; (refusal.ground.number(), refusal.at), (41, 5)),
+        Err(refusal) => assert_eq!(rt; (u8::from(refusal.ground), refusal.at), (41, 5)),
     }
     let mut none: [Line; 0] = [];
     let mut sheet = Sheet::new(&mut none);

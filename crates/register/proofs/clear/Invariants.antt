@@ -1,5 +1,5 @@
-use Rattle.std.proofs.Common.{◌≡◌, ◌++◌, drop, replicate}
+use Rattle.std.proofs.Common.{◌≡◌, ℕ, ◌<◌, get_or}
 use Rattle.register.proofs.clear.Given as goal
 
-abbrev pub invariant-loop-e : goal.invariant-loop-e
-invariant-loop-e g l = l.slots ≡ replicate l.e-index g.E.Keyed.vacant ++ drop l.e-index l.initial.slots
+abbrev pub invariant-loop-place : goal.invariant-loop-place
+invariant-loop-place g l = (k : ℕ) → k < l.place-index → get_or l.places k g.E.Keyed.vacant ≡ g.E.Keyed.vacant

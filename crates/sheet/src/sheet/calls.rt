@@ -1,6 +1,5 @@
 //! The calls of a sheet.
-ghost use Rattle.std.specs.Prelude.{◌≡◌, min, length, Err};
-ghost use Rattle.terms.specs.Questions.{refusal_of};
+ghost use Rattle.std.specs.Prelude.{◌≡◌, min, length};
 ghost use Rattle.sheet.specs.declared.call.Call.TheVariants as call;
 ghost use Rattle.sheet.specs.Calls.{Does, scheduled_size};
 ghost use Rattle.design.specs.Contents.{new_sheet};
@@ -13,31 +12,15 @@ use register::Register;
 use terms::entry::Entry;
 use terms::ground::Ground;
 use terms::hull::Hull;
-use terms::limits::{hull_fault, value_fault};
+use terms::limits::{LARGEST_SIZE, MOST_LINES};
 use terms::refusal::Refusal;
-
-// The most lines that a sheet uses.
-const MOST: usize = 96;
-
-// The largest size.
-pub(super) const LARGEST: u16 = 60_000;
-
-// A refusal at a mark.
-fn refuse<T>(ground: Ground, mark: u16) -> Result<T, Refusal>
-    ensures { result ≡ Err (refusal_of ground mark) }
-{
-    Err(Refusal {
-        ground,
-        at: mark as usize,
-    })
-}
 
 impl<'a> Sheet<'a> {
     /// A sheet with no hull and no line, unsettled, over the first 96 lines of the memory, or all of it where that is shorter.
     pub fn new(memory: &'a mut [Line]) -> Sheet<'a>
         ensures { contents result ≡ new_sheet (min (length memory.old) 96) }
     {
-        let room = memory.len().min(MOST);
+        let room = memory.len().min(MOST_LINES);
         let (front, _) = memory.split_at_mut(room);
         let lines = Register::new(front);
         Sheet {
@@ -78,9 +61,7 @@ impl<'a> Sheet<'a> {
     pub fn set_hull(&mut self, hull: Hull) -> Result<(), Refusal>
         ensures { Does (contents self.old) (call.Hull hull) result (contents self.new) }
     {
-        if let Some(ground) = hull_fault(hull) {
-            return refuse(ground, 0);
-        }
+        hull.check_limits()?;
         self.hull = Some(hull);
         self.unsettle();
         Ok(())
@@ -90,24 +71,19 @@ impl<'a> Sheet<'a> {
     pub fn enter(&mut self, entry: Entry) -> Result<(), Refusal>
         ensures { Does (contents self.old) (call.Enter entry) result (contents self.new) }
     {
-        let mark = entry.mark;
-        if mark == 0 {
-            return refuse(Ground::MarkZero, mark);
+        let at = usize::from(entry.mark);
+        if entry.mark == 0 {
+            return Err(Ground::MarkZero.at(at));
         }
-        if let Some(_) = self.find(mark) {
-            return refuse(Ground::MarkTaken, mark);
+        if self.find(entry.mark).is_ok() {
+            return Err(Ground::MarkTaken.at(at));
         }
-        if let Some(ground) = value_fault(entry) {
-            return refuse(ground, mark);
-        }
-        if !self.has_room() {
-            return refuse(Ground::SheetFull, mark);
-        }
+        entry.check_limits()?;
         self.add(Line {
             entry,
             laid: 0,
             scheduled: 0,
-        });
+        })?;
         self.unsettle();
         Ok(())
     }
@@ -116,22 +92,9 @@ impl<'a> Sheet<'a> {
     pub fn amend(&mut self, entry: Entry) -> Result<(), Refusal>
         ensures { Does (contents self.old) (call.Amend entry) result (contents self.new) }
     {
-        let mark = entry.mark;
-        let Some(place) = self.find(mark) else {
-            return refuse(Ground::MarkUnknown, mark);
-        };
-        if let Some(ground) = value_fault(entry) {
-            return refuse(ground, mark);
-        }
-        let line = self.line_at(place);
-        self.put(
-            place,
-            Line {
-                entry,
-                laid: line.laid,
-                scheduled: line.scheduled,
-            },
-        );
+        let (place, line) = self.find(entry.mark)?;
+        entry.check_limits()?;
+        self.put(place, Line { entry, ..line });
         self.unsettle();
         Ok(())
     }
@@ -140,9 +103,7 @@ impl<'a> Sheet<'a> {
     pub fn strike(&mut self, mark: u16) -> Result<(), Refusal>
         ensures { Does (contents self.old) (call.Strike mark) result (contents self.new) }
     {
-        let Some(place) = self.find(mark) else {
-            return refuse(Ground::MarkUnknown, mark);
-        };
+        let (place, _) = self.find(mark)?;
         self.remove(place);
         self.unsettle();
         Ok(())
@@ -152,21 +113,11 @@ impl<'a> Sheet<'a> {
     pub fn lay(&mut self, mark: u16, size: u16) -> Result<(), Refusal>
         ensures { Does (contents self.old) (call.Lay mark size) result (contents self.new) }
     {
-        let Some(place) = self.find(mark) else {
-            return refuse(Ground::MarkUnknown, mark);
-        };
-        if size > LARGEST {
-            return refuse(Ground::SizeOverLimit, mark);
+        let (place, line) = self.find(mark)?;
+        if size > LARGEST_SIZE {
+            return Err(Ground::SizeOverLimit.at(mark.into()));
         }
-        let line = self.line_at(place);
-        self.put(
-            place,
-            Line {
-                entry: line.entry,
-                laid: size,
-                scheduled: line.scheduled,
-            },
-        );
+        self.put(place, Line { laid: size, ..line });
         self.unsettle();
         Ok(())
     }
@@ -176,11 +127,9 @@ impl<'a> Sheet<'a> {
         ensures { result ≡ scheduled_size (contents self.now) mark }
     {
         if !self.settled {
-            return refuse(Ground::NotSettled, mark);
+            return Err(Ground::NotSettled.at(mark.into()));
         }
-        let Some(place) = self.find(mark) else {
-            return refuse(Ground::MarkUnknown, mark);
-        };
-        Ok(self.line_at(place).scheduled)
+        let (_, line) = self.find(mark)?;
+        Ok(line.scheduled)
     }
 }

@@ -21,12 +21,8 @@ impl Sheet<'_> {
         ensures lent { D.lenders basis.new ≡ D.lenders basis.old }
     {
         let hull = ready_hull(basis, self.hull(), self.lines())?;
-        let Some(sizes) = least_schedule(basis, hull, self.lines()) else {
-            return Err(Refusal {
-                ground: Ground::NoLawfulSchedule,
-                at: 0,
-            });
-        };
+        let found = least_schedule(basis, hull, self.lines());
+        let sizes = found.ok_or(Ground::NoLawfulSchedule.at(0))?;
         self.write(&sizes);
         Ok(())
     }

@@ -1,49 +1,23 @@
 //! The sheet, as what a trial is held on, and the check of its design.
-ghost use Rattle.std.specs.Prelude.{◌≡◌, ◌≤◌, true, length, take, slice_index_or};
+ghost use Rattle.std.specs.Prelude.{◌≡◌, true};
 ghost use Rattle.register.specs.Keys.{climbs};
-ghost use Rattle.design.specs.Lines.{no_line, mark_of};
+ghost use Rattle.design.specs.Lines.{mark_of};
 ghost use Rattle.design.specs.Settings.{set_by};
 ghost use Rattle.design.specs.Verdicts.{Checks};
-ghost use Rattle.sheet.specs.Laid.{put_in, LaidIn, Laid};
+ghost use Rattle.sheet.specs.Laid.{Laid};
 ghost use Rattle.sheet.specs.Sheets.{contents};
 
 use super::Sheet;
-use super::calls::LARGEST;
 use design::basis::Basis;
 use design::check::check_lines;
 use design::line::Line;
 use design::verdict::Verdict;
-use register::Register;
 use terms::book::RuleBook;
 use terms::hull::Hull;
+use terms::limits::LARGEST_SIZE;
 use terms::refusal::Refusal;
 use terms::stock::Stock;
 use trial::{Key, Lines};
-
-// Lays a size at a place of the first lines, and answers what lay there.
-fn put_front(slots: &mut [Line], count: usize, place: usize, size: u16) -> u16
-    requires { count ≤ length slots.old }
-    ensures old { result ≡ (slice_index_or (take count slots.old) place no_line).laid }
-    ensures laid { slots.new ≡ put_in count slots.old place size }
-{
-    if place >= count {
-        return 0;
-    }
-    let old = slots[place].laid;
-    if size <= LARGEST {
-        slots[place].laid = size;
-    }
-    old
-}
-
-fn put_in(lines: &mut Register<'_, Line>, place: usize, size: u16) -> u16
-    requires { lines.old.count ≤ length lines.old.slots.now }
-    ensures old { result ≡ (slice_index_or (take lines.old.count lines.old.slots.now) place no_line).laid }
-    ensures laid { LaidIn lines.old place size lines.new }
-{
-    let count = lines.count;
-    put_front(&mut *lines.slots, count, place, size)
-}
 
 impl<'a> Lines for Sheet<'a> {
     ghost contents = { contents };
@@ -63,7 +37,13 @@ impl<'a> Lines for Sheet<'a> {
     }
 
     fn put_at(&mut self, _: Key, place: usize, size: u16) -> u16 {
-        put_in(&mut self.lines, place, size)
+        let Some(line) = self.lines.elements().get(place).copied() else {
+            return 0;
+        };
+        if size <= LARGEST_SIZE {
+            let _ = self.lines.replace(place, Line { laid: size, ..line });
+        }
+        line.laid
     }
 }
 

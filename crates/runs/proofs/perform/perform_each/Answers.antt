@@ -1,17 +1,37 @@
-use Rattle.std.proofs.Common.{◌<◌, length, ◌∙◌, arith}
-use Rattle.std.proofs.lemmas.List.{drop-set-lt}
+use Rattle.std.proofs.Common.{◌≡◌, ℕ, ◌<◌, List, length, take, ◌∙◌, subst, arith}
+use Rattle.std.proofs.lemmas.List.{drop-set-lt, take_all, length-take-le}
 use Rattle.sheet.specs.Sheets.{contents}
+use Rattle.runs.specs.declared.step.Step.{Step}
+use Rattle.runs.specs.Runs.{Run}
 use Rattle.runs.proofs.Running.{run_next}
 use Rattle.runs.proofs.perform.perform_each.Goals as goal
 
 pub loop-i-preserved : goal.loop-i-preserved
 loop-i-preserved g c =
     let w = c.loop-i.invariant in
-    let l : c.loop-i.i < length c.loop-i.answers = omega (arith, c.loop-i.auto.answers, c.min-count.ensures, c.loop-i-test.true) in
-    let h : c.loop-i.i < length c.args.steps.now = omega (arith, c.min-count.ensures, c.loop-i-test.true) in (
+    let n = c.min-count.result in
+    let steps = take n c.args.steps.now in
+    let long : length steps ≡ n = length-take-le n c.args.steps.now (omega (arith, c.min-count.ensures)) in
+    let h : c.loop-i.i < length steps = c.loop-i-test.true in
+    let l : c.loop-i.i < length c.loop-i.answers = omega (arith, c.loop-i.auto.answers, c.min-count.ensures, long, h) in (
       c.perform.ensures.same ∙ w.0,
       c.perform.ensures.lent ∙ w.1,
       run_next (g.D.DesignBasis.setting c.args.basis.now) (g.D.DesignBasis.setting c.loop-i.basis) w.0 (contents c.args.sheet.now) (contents c.loop-i.sheet) (contents c.perform.new.sheet)
-          c.args.steps.now c.loop-i.answers c.loop-i.i _ c.perform.result h l w.2 c.perform.ensures.takes,
+          steps c.loop-i.answers c.loop-i.i _ c.perform.result h l w.2 c.perform.ensures.takes,
       λ k m. drop-set-lt k c.loop-i.answers c.loop-i.i c.perform.result (omega arith) ∙ w.3 k (omega arith),
     )
+
+pub returns-clause-run : goal.returns-clause-run
+returns-clause-run g c =
+    let n = c.min-count.result in
+    let steps = take n c.args.steps.now in
+    let long : length steps ≡ n = length-take-le n c.args.steps.now (omega (arith, c.min-count.ensures)) in
+    let at : c.loop-i.i ≡ n = omega (arith, long, c.loop-i-test.false, c.loop-i.auto.i-end) in
+    subst (λ (x : List Step × ℕ). Run (g.D.DesignBasis.setting c.args.basis.now) (contents c.args.sheet.now) x.0 (take x.1 c.loop-i.answers) (contents c.loop-i.sheet))
+    (λ j. (take_all c.loop-i.i steps c.loop-i-test.false j, at j)) c.loop-i.invariant.2
+
+pub returns-clause-rest : goal.returns-clause-rest
+returns-clause-rest g c =
+    let n = c.min-count.result in
+    let long : length (take n c.args.steps.now) ≡ n = length-take-le n c.args.steps.now (omega (arith, c.min-count.ensures)) in
+    c.loop-i.invariant.3 n (omega (arith, long, c.loop-i.auto.i-end))

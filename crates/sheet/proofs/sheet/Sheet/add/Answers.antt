@@ -1,31 +1,26 @@
-use Rattle.std.proofs.Common.{length, take, ap, ◌∙◌, arith}
-use Rattle.std.proofs.lemmas.List.{length-take-le}
-use Rattle.register.specs.Keys.{placed, each}
+use Rattle.std.proofs.Common.{◌≡◌, true, List, ap, ◌∙◌, is_ok, arith}
+use Rattle.std.proofs.lemmas.Bool.{cond_both}
+use Rattle.register.specs.Keys.{climbs, each, placed}
 use Rattle.register.proofs.Each.{each_placed}
-use Rattle.register.proofs.Kept.{Holds, added}
-use Rattle.design.specs.Lines.{no_line, mark_of, line_kept}
+use Rattle.register.proofs.Orders.{climbs-placed}
+use Rattle.design.specs.declared.line.Line.{Line}
+use Rattle.design.specs.Lines.{mark_of, line_kept}
 use Rattle.design.proofs.Places.{no_place}
-use Rattle.sheet.proofs.Clearing.{held-contents}
+use Rattle.sheet.specs.Sheets.{lines_of}
 use Rattle.sheet.proofs.sheet.Sheet.add.Goals as goal
-use Rattle.sheet.proofs.sheet.Sheet.add.Goals.{After-insert}
-
-left : (c : goal.After-insert) → Holds mark_of no_line c.insert.new.self.count c.insert.new.self.slots.now
-    (placed mark_of c.args.line (take c.args.self.now.lines.count c.args.self.now.lines.slots.now)) (length c.args.self.now.lines.slots.now)
-left c =
-    let s = c.args.self.now in
-    added mark_of no_line s.lines.count s.lines.slots.now s.fits s.climbing s.rest c.insert.new.self.count c.insert.new.self.slots.now
-    c.args.line c.insert.result (omega (arith, length-take-le s.lines.count s.lines.slots.now s.fits, c.requires.room)) c.requires.marked (no_place (mark_of c.args.line) (take s.lines.count s.lines.slots.now) c.requires.new)
-    c.insert.ensures.answer c.insert.ensures.slots c.insert.ensures.count
 
 pub invariant_of-self : goal.invariant_of-self
-invariant_of-self c = let a = left c in record {
-  fits = a.fits;
-  small = omega (arith, a.whole, c.args.self.now.small);
-  climbing = a.climbing;
-  rest = a.rest;
-  proper = c.args.self.now.proper;
-  limits = ap (each line_kept) a.held ∙ each_placed line_kept mark_of c.args.line _ c.requires.kept c.args.self.now.limits;
-}
-
-pub returns : goal.returns
-returns c = held-contents _ _ _ _ _ _ (left (goal.at.returns c).After-insert)
+invariant_of-self c =
+    let s = c.args.self.now in
+    let ls = lines_of s in
+    let line = c.args.line in
+    let e = c.insert-added.ensures in
+    let added = is_ok c.insert-added.result in
+    record {
+      small = omega (arith, e.places.room, s.small);
+      climbing = ap (climbs mark_of 0) e.elements
+          ∙ cond_both added (placed mark_of line ls) ls (λ (l : List Line). climbs mark_of 0 l ≡ true) (λ _. climbs-placed mark_of line 0 ls s.climbing c.requires.marked (no_place (mark_of line) ls c.requires.new)) (λ _. s.climbing);
+      proper = s.proper;
+      limits = ap (each line_kept) e.elements
+          ∙ cond_both added (placed mark_of line ls) ls (λ (l : List Line). each line_kept l ≡ true) (λ _. each_placed line_kept mark_of line ls c.requires.kept s.limits) (λ _. s.limits);
+    }

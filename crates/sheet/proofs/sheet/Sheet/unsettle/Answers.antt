@@ -1,29 +1,26 @@
-use Rattle.std.proofs.Common.{false, length, take, ap, ◌∙◌, arith}
-use Rattle.register.specs.Keys.{each}
-use Rattle.register.proofs.Kept.{Holds}
-use Rattle.design.specs.Lines.{no_line, mark_of, scheduled_by, line_kept}
-use Rattle.sheet.proofs.Clearing.{cleared_sized, held-contents, sized-left, scheduled_none, kept_scheduled}
+use Rattle.std.proofs.Common.{false, refl, ap, ◌∙◌, arith}
+use Rattle.register.specs.Keys.{climbs, each}
+use Rattle.register.proofs.Changed.{changed_map}
+use Rattle.register.proofs.Each.{each-changed}
+use Rattle.register.proofs.Orders.{climbs-changed}
+use Rattle.design.specs.Lines.{mark_of, line_kept, unscheduled}
+use Rattle.sheet.specs.Sheets.{lines_of}
 use Rattle.sheet.proofs.sheet.Sheet.unsettle.Goals as goal
-use Rattle.sheet.proofs.sheet.Sheet.unsettle.Goals.{After-clear_all}
-
-left : (c : goal.After-clear_all) → Holds mark_of no_line c.clear_all.new.lines.count c.clear_all.new.lines.slots.now
-    (scheduled_by (λ _. 0) (take c.args.self.now.lines.count c.args.self.now.lines.slots.now)) (length c.args.self.now.lines.slots.now)
-left c =
-    let s = c.args.self.now in
-    sized-left s.lines.count s.lines.slots.now s.fits s.climbing s.rest (λ _. 0) c.clear_all.new.lines.count c.clear_all.new.lines.slots.now
-    c.clear_all.ensures.count (cleared_sized s.lines.slots.now s.lines.count c.clear_all.new.lines.slots.now c.clear_all.ensures.cleared)
 
 pub invariant_of-self : goal.invariant_of-self
-invariant_of-self c = let a = left c in record {
-  fits = a.fits;
-  small = omega (arith, a.whole, c.args.self.now.small);
-  climbing = a.climbing;
-  rest = a.rest;
-  proper = c.args.self.now.proper;
-  limits = ap (each line_kept) a.held ∙ kept_scheduled (λ _. 0) (take c.args.self.now.lines.count c.args.self.now.lines.slots.now) ∙ c.args.self.now.limits;
-}
+invariant_of-self c =
+    let s = c.args.self.now in
+    let ls = lines_of s in
+    let e = c.change_each.ensures in
+    record {
+      small = omega (arith, e.places.room, s.small);
+      climbing = ap (climbs mark_of 0) e.elements ∙ climbs-changed mark_of (λ _. unscheduled) (λ _ _. refl) 0 ls ∙ s.climbing;
+      proper = s.proper;
+      limits = ap (each line_kept) e.elements ∙ each-changed line_kept (λ _. unscheduled) (λ _ _. refl) ls ∙ s.limits;
+    }
 
 pub returns : goal.returns
 returns c =
     let s = c.args.self.now in
-    held-contents _ _ _ _ _ _ (left (goal.at.returns c).After-clear_all) ∙ (λ j. record { hull = s.hull; lines = scheduled_none (take s.lines.count s.lines.slots.now) j; settled = false; room = length s.lines.slots.now })
+    let e = c.change_each.ensures in
+    λ j. record { hull = s.hull; lines = (e.elements ∙ changed_map unscheduled (lines_of s)) j; settled = false; room = e.places.room j }

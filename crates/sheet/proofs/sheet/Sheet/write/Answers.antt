@@ -1,32 +1,28 @@
-use Rattle.std.proofs.Common.{length, take, ap, ◌∙◌, arith}
-use Rattle.register.specs.Keys.{each}
-use Rattle.register.proofs.Kept.{Holds}
-use Rattle.std.proofs.lemmas.List.{length-take-le}
-use Rattle.design.specs.Lines.{no_line, mark_of, scheduled_by, line_kept}
+use Rattle.std.proofs.Common.{true, refl, ap, ◌∙◌, arith}
+use Rattle.register.specs.Keys.{climbs, each}
+use Rattle.register.proofs.Each.{each-changed}
+use Rattle.register.proofs.Orders.{climbs-changed}
+use Rattle.design.specs.Lines.{mark_of, line_kept, scheduled_as}
 use Rattle.least.specs.Least.{listed}
-use Rattle.sheet.proofs.Clearing.{held-contents, sized-left, kept_scheduled}
+use Rattle.sheet.specs.Sheets.{lines_of}
+use Rattle.sheet.proofs.Scheduling.{each_scheduled}
 use Rattle.sheet.proofs.sheet.Sheet.write.Goals as goal
-use Rattle.sheet.proofs.sheet.Sheet.write.Goals.{After-write_all}
-
-left : (c : goal.After-write_all) → Holds mark_of no_line c.write_all.new.lines.count c.write_all.new.lines.slots.now
-    (scheduled_by (listed c.args.sizes.now) (take c.args.self.now.lines.count c.args.self.now.lines.slots.now)) (length c.args.self.now.lines.slots.now)
-left c =
-    let s = c.args.self.now in
-    sized-left s.lines.count s.lines.slots.now s.fits s.climbing s.rest (listed c.args.sizes.now) c.write_all.new.lines.count c.write_all.new.lines.slots.now
-    c.write_all.ensures.count c.write_all.ensures.sized
 
 pub invariant_of-self : goal.invariant_of-self
-invariant_of-self c = let a = left c in record {
-  fits = a.fits;
-  small = omega (arith, a.whole, c.args.self.now.small);
-  climbing = a.climbing;
-  rest = a.rest;
-  proper = c.args.self.now.proper;
-  limits = ap (each line_kept) a.held ∙ kept_scheduled (listed c.args.sizes.now) (take c.args.self.now.lines.count c.args.self.now.lines.slots.now) ∙ c.args.self.now.limits;
-}
-
-pub write_all-requires : goal.write_all-requires
-write_all-requires c = record { slots = c.args.self.now.fits; sizes = let h = c.requires in omega (arith, length-take-le c.args.self.now.lines.count c.args.self.now.lines.slots.now c.args.self.now.fits) }
+invariant_of-self c =
+    let s = c.args.self.now in
+    let ls = lines_of s in
+    let e = c.change_each.ensures in
+    let size = listed c.args.sizes.now in
+    record {
+      small = omega (arith, e.places.room, s.small);
+      climbing = ap (climbs mark_of 0) e.elements ∙ climbs-changed mark_of (λ i. scheduled_as (size i)) (λ _ _. refl) 0 ls ∙ s.climbing;
+      proper = s.proper;
+      limits = ap (each line_kept) e.elements ∙ each-changed line_kept (λ i. scheduled_as (size i)) (λ _ _. refl) ls ∙ s.limits;
+    }
 
 pub returns : goal.returns
-returns c = held-contents _ _ _ _ _ _ (left (goal.at.returns c).After-write_all)
+returns c =
+    let s = c.args.self.now in
+    let e = c.change_each.ensures in
+    λ j. record { hull = s.hull; lines = (e.elements ∙ each_scheduled (listed c.args.sizes.now) (lines_of s)) j; settled = true; room = e.places.room j }

@@ -1,34 +1,48 @@
-use Rattle.std.proofs.Common.{refl}
-use Rattle.sheet.specs.declared.sheet.Sheet.{Sheet}
-use Rattle.sheet.proofs.PutIn.{Good, still_good, lines-laid, room-laid, sheet-back}
+use Rattle.std.proofs.Common.{◌≡◌, ◌<◌, ◌≤◌, length, get_or, ap, ◌∙◌, arith, rules}
+use Rattle.std.proofs.lemmas.List.{get_or_default}
+use Rattle.register.specs.Keys.{climbs, each}
+use Rattle.register.proofs.Each.{each_set, each_at}
+use Rattle.register.proofs.Orders.{climbs-set}
+use Rattle.design.specs.Lines.{no_line, mark_of, line_kept, laid_as}
+use Rattle.sheet.specs.Sheets.{lines_of}
+use Rattle.sheet.proofs.Laying.{sheet-back, none_past, laid_past, still_kept}
 use Rattle.sheet.proofs.sheet.tried.SheetLines.put_at.Goals as goal
+use Rattle.sheet.proofs.sheet.tried.SheetLines.put_at.Goals.{In-Some}
 
-good : (s : Sheet) → Good s.lines.count s.lines.slots.now
-good s = record { fits = s.fits; small = s.small; climbing = s.climbing; rest = s.rest; limits = s.limits }
+inside : (c : In-Some) → c.args.place < length (lines_of c.args.self.now)
+inside c = search rules
+
+line_is : (c : In-Some) → c.in-Some.line ≡ get_or (lines_of c.args.self.now) c.args.place no_line
+line_is c = search rules
+
+pub returns-in_default-clause-back : goal.returns-in_default-clause-back
+returns-in_default-clause-back c =
+    let past : length (lines_of c.args.self.now) ≤ c.args.place = search rules in
+    λ t again. sheet-back c.args.self.now c.args.self.now t c.args.place c.args.size 0 (laid_past c.args.self.now c.args.place c.args.size past) (none_past (lines_of c.args.self.now) c.args.place past) again
 
 pub invariant_of-self : goal.invariant_of-self
 invariant_of-self c =
-    let a = still_good c.args.self.now.lines c.put_in.new.lines c.args.place c.args.size c.put_in.ensures.laid (good c.args.self.now) in
+    let s = c.args.self.now in
+    let ls = lines_of s in
+    let e = c.replace.ensures in
+    let here = (goal.at.invariant_of-self c).In-Some in
+    let is = line_is here in
+    let h = inside here in
+    let line = laid_as c.args.size c.in-Some.line in
+    let kept = ap line_kept is ∙ each_at line_kept ls c.args.place no_line h s.limits in
     record {
-      fits = a.fits;
-      small = a.small;
-      climbing = a.climbing;
-      rest = a.rest;
-      proper = c.args.self.now.proper;
-      limits = a.limits;
+      small = omega (arith, e.places.room, s.small);
+      climbing = ap (climbs mark_of 0) e.elements ∙ climbs-set mark_of 0 ls c.args.place line (ap mark_of (is ∙ get_or_default ls c.args.place no_line line h)) ∙ s.climbing;
+      proper = s.proper;
+      limits = ap (each line_kept) e.elements ∙ each_set line_kept ls c.args.place line (still_kept c.in-Some.line c.args.size kept c.if-size-le-LARGEST_SIZE.true) s.limits;
     }
 
-pub returns : goal.returns
-returns c =
-    let s = c.args.self.now in
-    let l = c.put_in.ensures.laid in
-    record {
-      contents = λ j. record {
-        hull = s.hull;
-        lines = lines-laid s.lines c.put_in.new.lines c.args.place c.args.size l s.fits j;
-        settled = s.settled;
-        room = room-laid s.lines c.put_in.new.lines c.args.place c.args.size l s.fits j;
-      };
-      laid = record { lines = l; hull = refl; settled = refl };
-      back = λ t again. sheet-back s _ t c.args.place c.args.size c.put_in.result (record { lines = l; hull = refl; settled = refl }) (good s) c.put_in.ensures.old again;
-    }
+pub returns-then-size-le-LARGEST_SIZE-clause-back : goal.returns-then-size-le-LARGEST_SIZE-clause-back
+returns-then-size-le-LARGEST_SIZE-clause-back c =
+    let is = line_is (goal.at.returns-then-size-le-LARGEST_SIZE-clause-back c).In-Some in
+    λ t again. sheet-back c.args.self.now _ t c.args.place c.args.size c.in-Some.line.laid (search rules) (ap (λ l. l.laid) is) again
+
+pub returns-else-size-le-LARGEST_SIZE-clause-back : goal.returns-else-size-le-LARGEST_SIZE-clause-back
+returns-else-size-le-LARGEST_SIZE-clause-back c =
+    let is = line_is (goal.at.returns-else-size-le-LARGEST_SIZE-clause-back c).In-Some in
+    λ t again. sheet-back c.args.self.now _ t c.args.place c.args.size c.in-Some.line.laid (search rules) (ap (λ l. l.laid) is) again
