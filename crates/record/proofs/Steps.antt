@@ -4,6 +4,7 @@ use denote.Enum.Bare.{sameb}
 use Rattle.std.proofs.Math.Bool.{not, beq}
 use Rattle.std.proofs.lemmas.Bool.{false≢true}
 use Rattle.terms.specs.declared.ground.Ground.TheVariants.{HullOutOfOrder, OperandsCutShort}
+use Rattle.terms.specs.declared.refusal.Refusal.{Refusal}
 use Rattle.design.specs.Lines.{no_line}
 use Rattle.sheet.specs.declared.call.Call.{Call}
 use Rattle.sheet.specs.declared.call.Call.TheVariants.{Hull, Enter, Amend, Strike, Lay}
@@ -108,7 +109,8 @@ not_ended Body apart e = body_open e
 not_ended Ended apart e = false≢true apart
 
 -- a command out of order
-pub told_order : (xs : List ℕ) (i : ℕ) (s : Stage) (c : Command) (is_hull is_first : Bool) → false ≡ sameb stages s Ended → get_or (drop i xs) 0 0 ≡ first_byte c → 0 < length (drop i xs)
-    → is_hull ≡ sameb commands c command.Hull → is_first ≡ sameb stages s BeforeHull → not (beq is_hull is_first) ≡ true → Told xs i s (Err (at_place HullOutOfOrder i)) i s
-told_order xs i s c is_hull is_first apart e some p q differ =
-    (not_ended s apart, order_fault s i (drop i xs) c e some (out_of_order s c ((λ k. not (beq (sym p k) (sym q k))) ∙ differ)), refl, refl)
+pub told_order : (xs : List ℕ) (i : ℕ) (s : Stage) (c : Command) (e : Refusal) (is_hull is_first : Bool) → false ≡ sameb stages s Ended → get_or (drop i xs) 0 0 ≡ first_byte c → 0 < length (drop i xs)
+    → is_hull ≡ sameb commands c command.Hull → is_first ≡ sameb stages s BeforeHull → not (beq is_hull is_first) ≡ true → e ≡ at_place HullOutOfOrder i → Told xs i s (Err e) i s
+told_order xs i s c e is_hull is_first apart first some p q differ at =
+    let fault = order_fault s i (drop i xs) c first some (out_of_order s c ((λ k. not (beq (sym p k) (sym q k))) ∙ differ)) in
+    (not_ended s apart, subst (Fault s i (drop i xs)) (sym at) fault, refl, refl)

@@ -5,6 +5,7 @@ use Rattle.std.proofs.lemmas.Bool.{lt-leb, le-leb}
 use Rattle.std.proofs.lemmas.List.{length-append}
 use Rattle.terms.specs.declared.ground.Ground.TheVariants.{HullMissing, TooFewBytes}
 use Rattle.terms.specs.declared.hull.Hull.{Hull}
+use Rattle.terms.specs.declared.refusal.Refusal.{Refusal}
 use Rattle.terms.specs.Questions.{first_no}
 use Rattle.design.specs.declared.line.Line.{Line}
 use Rattle.design.specs.Contents.{Contents}
@@ -58,8 +59,8 @@ module _ (c : Contents) (h : Hull) (ls : List Line) (has : Some h ≡ c.hull) (l
     answered : (b : Bool) → nat_le (place + length (recorded c)) room ≡ b → count_or (length (recorded c)) (first_no (write_questions c room place)) ≡ count_or count (cond b None (Some TooFewBytes))
     answered b e = λ i. count_or (whole i) (cond (is_some (sym has i)) (cond (e i) None (Some TooFewBytes)) (Some HullMissing))
 
-    pub too_few : room - place < count → Err (at_place TooFewBytes 0) ≡ count_or (length (recorded c)) (first_no (write_questions c room place))
-    too_few short = sym (answered false (lt-leb (place + length (recorded c)) room (omega (arith, whole))))
+    pub too_few : (e : Refusal) → e ≡ at_place TooFewBytes 0 → room - place < count → Err e ≡ count_or (length (recorded c)) (first_no (write_questions c room place))
+    too_few e at short = ap Err at ∙ sym (answered false (lt-leb (place + length (recorded c)) room (omega (arith, whole))))
 
     pub enough : count ≤ room - place → Ok count ≡ count_or (length (recorded c)) (first_no (write_questions c room place))
     enough fits = sym (answered true (le-leb (place + length (recorded c)) room (omega (arith, whole))))

@@ -9,7 +9,7 @@ pub returns-then-saturating_sub-count : goal.returns-then-saturating_sub-count
 returns-then-saturating_sub-count c =
     let has = sym c.in_ok-hull.ensures.ok_part ∙ c.hull.ensures in
     record {
-      answers = too_few (contents c.args.sheet.now) c.in_ok-hull.hull c.lines-lines.result.now has c.lines-lines.ensures (length c.args.out.now) c.args.place _ c.record_length-count.ensures (search rules);
+      answers = too_few (contents c.args.sheet.now) c.in_ok-hull.hull c.lines-lines.result.now has c.lines-lines.ensures (length c.args.out.now) c.args.place _ c.record_length-count.ensures _ (search rules) (search rules);
       leaves = refl;
     }
 
