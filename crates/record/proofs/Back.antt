@@ -1,14 +1,17 @@
 -- A call is read off its bytes in one way.
-use Rattle.std.proofs.Common.{◌≡◌, ℕ, ◌+◌, ◌*◌, ◌/◌, ◌%◌, cond, eqb, List, ◌∷◌, get_or, drop, sym, refl, ap, ◌∙◌, arith}
+use Rattle.std.proofs.Common.{◌≡◌, ℕ, ◌+◌, cond, eqb, List, [], ◌∷◌, get_or, drop, sym, refl, ap, ◌∙◌, arith}
+use Rattle.std.specs.Int.{w16, from_be_bytes}
 use Rattle.terms.specs.declared.entry.Entry.{Entry}
 use Rattle.sheet.specs.declared.call.Call.{Call}
 use Rattle.sheet.specs.declared.call.Call.TheVariants.{Hull, Enter, Amend, Strike, Lay}
-use Rattle.record.specs.Spelling.{spelled, entered}
-use Rattle.record.proofs.Steps.{width}
+use Rattle.record.specs.Spelling.{pair, spelled, entered}
+use Rattle.record.specs.Parts.{width}
 
-abbrev word : List ℕ → ℕ → ℕ
-word xs i = 256 * get_or xs i 0 + get_or xs (i + 1) 0
+-- the number in the two bytes from a place on
+abbrev pub word : List ℕ → ℕ → ℕ
+word xs i = from_be_bytes w16 (get_or xs i 0 ∷ get_or xs (i + 1) 0 ∷ [])
 
+-- the entered values after a command byte
 abbrev entry_at : List ℕ → Entry
 entry_at xs = record {
   mark = word xs 1;
@@ -29,7 +32,7 @@ call_at xs =
     cond (eqb (get_or xs 0 0) 1) (Hull (record { length = word xs 1; breadth = word xs 3; depth = word xs 5; draught = word xs 7; water = get_or xs 9 0 }))
     (cond (eqb (get_or xs 0 0) 2) (Enter (entry_at xs)) (cond (eqb (get_or xs 0 0) 3) (Amend (entry_at xs)) (cond (eqb (get_or xs 0 0) 4) (Strike (word xs 1)) (Lay (word xs 1) (word xs 3)))))
 
-joins : (n : ℕ) → 256 * (n / 256) + n % 256 ≡ n
+joins : (n : ℕ) → from_be_bytes w16 (pair n []) ≡ n
 joins n = omega arith
 
 entry-back : (e : Entry) (b : ℕ) (more : List ℕ) → entry_at (b ∷ entered e more) ≡ e

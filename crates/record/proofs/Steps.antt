@@ -1,20 +1,23 @@
 -- What a reader answers, from what its parts found.
-use Rattle.std.proofs.Common.{◌≡◌, ℕ, zero, suc, ◌+◌, ◌<◌, ◌≤◌, cond, eqb, ◌⊎◌, List, [], ◌∷◌, length, get_or, drop, Some, None, Ok, Err, Option, sym, refl, ap, ◌∙◌, subst, inl, inr, arith}
-use Rattle.std.proofs.lemmas.List.{drop-drop, drop_more, length-drop, nil_from_length}
-use Rattle.terms.specs.declared.ground.Ground.TheVariants.{HullOutOfOrder}
+use Rattle.std.proofs.Common.{◌≡◌, ℕ, zero, suc, ◌+◌, ◌<◌, Bool, true, false, ◌≤◌, ◌⊎◌, List, [], ◌∷◌, length, get_or, drop, Err, sym, refl, ap, ◌∙◌, subst, inl, inr, arith}
+use denote.Enum.Bare.{sameb}
+use Rattle.std.proofs.Math.Bool.{not, beq}
+use Rattle.std.proofs.lemmas.Bool.{false≢true}
+use Rattle.terms.specs.declared.ground.Ground.TheVariants.{HullOutOfOrder, OperandsCutShort}
 use Rattle.terms.specs.declared.refusal.Refusal.{Refusal}
 use Rattle.design.specs.Lines.{no_line}
 use Rattle.sheet.specs.declared.call.Call.{Call}
 use Rattle.sheet.specs.declared.call.Call.TheVariants.{Hull, Enter, Amend, Strike, Lay}
+use Rattle.record.specs.declared.command.Command.{Command}
+use Rattle.record.specs.declared.command.Command.TheVariants as command
 use Rattle.record.specs.declared.placed.Stage.{Stage}
 use Rattle.record.specs.declared.placed.Stage.TheVariants.{BeforeHull, Body, Ended}
+use Rattle.record.specs.contracts.command.Command.{the_type as commands}
+use Rattle.record.specs.contracts.placed.Stage.{the_type as stages}
 use Rattle.record.specs.Spelling.{spelled, end, byte_of}
 use Rattle.record.specs.Reading.{Known, InOrder, Whole, Fault, Told, ToldAnswer, at_place}
-use Rattle.record.specs.Parts.{Fronts, Stepped}
-
--- how many bytes a command has that begins with a byte
-abbrev pub width : ℕ → ℕ
-width b = cond (eqb b 1) 10 (cond (eqb b 4) 3 (cond (eqb b 5) 5 20))
+use Rattle.record.specs.Commands.{first_byte}
+use Rattle.record.specs.Parts.{width, Awaits}
 
 wide : (x : Call) (more : List ℕ) → length (spelled x more) ≡ width (byte_of x) + length more
 wide (Hull h) more = omega arith
@@ -61,54 +64,53 @@ hull_open e = let z : ◌≡◌ {A = ℕ} 0 1 = cc in omega arith
 pub body_open : Body ≡ Ended → ⊥
 body_open e = let z : ◌≡◌ {A = ℕ} 0 1 = cc in omega arith
 
--- a fault of bytes that begin with b is one of b and the others
-fault_of : (s : Stage) (i b : ℕ) (e : Refusal) (rest : List ℕ) → 0 < length rest → get_or rest 0 0 ≡ b → Fault s i (b ∷ drop 1 rest) e → Fault s i rest e
-fault_of s i b e [] h y f = absurd (omega arith)
-fault_of s i b e (a ∷ more) h y f = subst (λ (q : ℕ). Fault s i (q ∷ more) e) (sym y) f
+-- a call may come
+awaited : (s : Stage) (b n : ℕ) → Awaits s b n → (s ≡ Ended → ⊥) × (1 ≤ b) × (b ≤ 5) × InOrder s b
+awaited s b n (inl h, w) = ((λ e. hull_open (sym h.0 ∙ e)), omega (arith, h.1), omega (arith, h.1), subst (λ (q : Stage). InOrder q b) (sym h.0) h.1)
+awaited s b n (inr h, w) =
+    let o : b ≡ 1 → ⊥ = λ e. omega (arith, h.1) in
+    ((λ e. body_open (sym h.0 ∙ e)), omega (arith, h.1), h.2, subst (λ (q : Stage). InOrder q b) (sym h.0) o)
 
--- a reader at a place, with the bytes that it has still to read, of which there are some
-module _ (xs rest : List ℕ) (i b : ℕ) (s : Stage) (here : rest ≡ drop i xs) (some : 0 < length rest) (first : get_or rest 0 0 ≡ b) where
-  told_fault : (e : Refusal) (r : ToldAnswer) (j : ℕ) (t : Stage) → (s ≡ Ended → ⊥) → Fault s i (b ∷ drop 1 rest) e → r ≡ Err e → j ≡ i → t ≡ s → Told xs i s r j t
-  told_fault e r j t o f re je te =
-      subst (λ (q : ToldAnswer). Told xs i s q j t) (sym re) (o, subst (λ (l : List ℕ). Fault s i l e) here (fault_of s i b e rest some first f), je, te)
+-- a command that is cut short
+short_fault : (s : Stage) (i n : ℕ) (rest : List ℕ) → Awaits s (get_or rest 0 0) n → length rest < n → Fault s i rest (at_place OperandsCutShort i)
+short_fault s i n [] a short = absurd (omega (arith, (awaited s 0 n a).1))
+short_fault s i n (b ∷ more) a short =
+    let w = awaited s b n a in
+    inr (low_known b w.1 w.2, inr (w.3, inl (cut_short b more (omega (arith, a.1)) (omega (arith, w.2)), refl)))
 
-  -- the hull is not first, or not only first
-  pub told_order : (r : ToldAnswer) → ((s ≡ Body) × (b ≡ 1)) ⊎ ((s ≡ BeforeHull) × (((2 ≤ b) × (b ≤ 5)) ⊎ (b ≡ end))) → r ≡ Err (at_place HullOutOfOrder i) → Told xs i s r i s
-  told_order r (inl (sb, bb)) re =
-      told_fault _ r i s (λ q. body_open (sym sb ∙ q)) (inr (low_known b (omega arith) (omega arith), inl ((λ o. subst (λ (q : Stage). InOrder q b) sb o bb), refl))) re refl refl
-  told_order r (inr (sb, inl (l, u))) re =
-      told_fault _ r i s (λ q. hull_open (sym sb ∙ q)) (inr (low_known b (omega arith) u, inl ((λ o. omega (arith, subst (λ (q : Stage). InOrder q b) sb o)), refl))) re refl refl
-  told_order r (inr (sb, inr e)) re =
-      told_fault _ r i s (λ q. hull_open (sym sb ∙ q)) (inr (inr e, inl ((λ o. omega (arith, subst (λ (q : Stage). InOrder q b) sb o)), refl))) re refl refl
+pub told_short : (xs : List ℕ) (i n : ℕ) (s : Stage) (r : ToldAnswer) → Awaits s (get_or (drop i xs) 0 0) n → length (drop i xs) < n → r ≡ Err (at_place OperandsCutShort i) → Told xs i s r i s
+told_short xs i n s r a short e =
+    subst (λ (q : ToldAnswer). Told xs i s q i s) (sym e) ((awaited s _ n a).0, short_fault s i n (drop i xs) a short, refl, refl)
 
-  read_call : (n : ℕ) (x : Call) (r : ToldAnswer) (j : ℕ) (t : Stage) → InOrder s b → Fronts n (Some x) rest → Stepped i s (Some x) n r j t → Told xs i s r j t
-  read_call n x r j t o f st =
-      let y : b ≡ byte_of x = sym first ∙ ap (λ l. get_or l 0 0) f.1 ∙ byte_first x (drop n rest) in
-      let d : drop n rest ≡ drop j xs = ap (drop n) here ∙ drop-drop n i xs ∙ ap (λ k. drop k xs) (sym st.1) in
-      subst (λ (q : ToldAnswer). Told xs i s q j t) (sym st.0)
-      (refl, subst (InOrder s) y o, sym here ∙ f.1 ∙ ap (spelled x) d, st.1 ∙ ap (λ k. i + k) (sym f.2), st.2)
+-- each command has a byte that begins one
+known : (c : Command) → Known (first_byte c)
+known command.Hull = low_known 1 (omega arith) (omega arith)
+known command.Enter = low_known 2 (omega arith) (omega arith)
+known command.Amend = low_known 3 (omega arith) (omega arith)
+known command.Strike = low_known 4 (omega arith) (omega arith)
+known command.Lay = low_known 5 (omega arith) (omega arith)
+known command.End = inr refl
 
-  -- a step over a command that was read, or was not whole
-  told_step : (n : ℕ) (read : Option Call) (r : ToldAnswer) (j : ℕ) (t : Stage) → (s ≡ Ended → ⊥) → 1 ≤ b → b ≤ 5 → InOrder s b → width b ≡ n
-      → Fronts n read rest → Stepped i s read n r j t → Told xs i s r j t
-  told_step n (Some x) r j t e l u o w f st = read_call n x r j t o f st
-  told_step n None r j t e l u o w f st =
-      let h : length (b ∷ drop 1 rest) < width b = omega (arith, length-drop 1 rest) in
-      told_fault _ r j t e (inr (low_known b l u, inr (o, inl (cut_short b (drop 1 rest) h (omega arith), refl)))) st.0 st.1 st.2
+-- a stage and a command that the test of the order refuses
+out_of_order : (s : Stage) (c : Command) → not (beq (sameb commands c command.Hull) (sameb stages s BeforeHull)) ≡ true → InOrder s (first_byte c) → ⊥
+out_of_order Ended c differ o = o
+out_of_order BeforeHull command.Hull differ o = false≢true differ
+out_of_order BeforeHull c differ o = omega arith
+out_of_order Body command.Hull differ o = o refl
+out_of_order Body c differ o = false≢true differ
 
-  pub told_hull : (read : Option Call) (r : ToldAnswer) (j : ℕ) (t : Stage) → s ≡ BeforeHull → b ≡ 1 → Fronts 10 read rest → Stepped i s read 10 r j t → Told xs i s r j t
-  told_hull read r j t sb bb f st =
-      told_step 10 read r j t (λ q. hull_open (sym sb ∙ q)) (omega arith) (omega arith) (subst (λ (q : Stage). InOrder q b) (sym sb) bb) (ap width bb) f st
+order_fault : (s : Stage) (i : ℕ) (rest : List ℕ) (c : Command) → get_or rest 0 0 ≡ first_byte c → 0 < length rest → (InOrder s (first_byte c) → ⊥) → Fault s i rest (at_place HullOutOfOrder i)
+order_fault s i [] c e some wrong = absurd (omega arith)
+order_fault s i (b ∷ more) c e some wrong = inr (subst Known (sym e) (known c), inl ((λ o. wrong (subst (InOrder s) e o)), refl))
 
-  pub told_body : (k n : ℕ) (read : Option Call) (r : ToldAnswer) (j : ℕ) (t : Stage) → s ≡ Body → b ≡ k → 2 ≤ k → k ≤ 5 → width k ≡ n
-      → Fronts n read rest → Stepped i s read n r j t → Told xs i s r j t
-  told_body k n read r j t sb bk l u w f st =
-      let o : b ≡ 1 → ⊥ = λ q. omega arith in
-      told_step n read r j t (λ q. body_open (sym sb ∙ q)) (omega arith) (omega arith) (subst (λ (q : Stage). InOrder q b) (sym sb) o) (ap width bk ∙ w) f st
+not_ended : (s : Stage) → false ≡ sameb stages s Ended → s ≡ Ended → ⊥
+not_ended BeforeHull apart e = hull_open e
+not_ended Body apart e = body_open e
+not_ended Ended apart e = false≢true apart
 
-  -- the end, with nothing after it
-  pub told_end : s ≡ Body → b ≡ end → length rest ≡ 1 → Told xs i s (Ok None) (i + 1) Ended
-  told_end sb be one =
-      let d = drop_more rest 0 0 some in
-      let z = nil_from_length (drop 1 rest) (omega (arith, length-drop 1 rest)) in
-      (inr (sb, sym here ∙ d ∙ (λ k. (first ∙ be) k ∷ z k), refl), refl)
+-- a command out of order
+pub told_order : (xs : List ℕ) (i : ℕ) (s : Stage) (c : Command) (e : Refusal) (is_hull is_first : Bool) → false ≡ sameb stages s Ended → get_or (drop i xs) 0 0 ≡ first_byte c → 0 < length (drop i xs)
+    → is_hull ≡ sameb commands c command.Hull → is_first ≡ sameb stages s BeforeHull → not (beq is_hull is_first) ≡ true → e ≡ at_place HullOutOfOrder i → Told xs i s (Err e) i s
+told_order xs i s c e is_hull is_first apart first some p q differ at =
+    let fault = order_fault s i (drop i xs) c first some (out_of_order s c ((λ k. not (beq (sym p k) (sym q k))) ∙ differ)) in
+    (not_ended s apart, subst (Fault s i (drop i xs)) (sym at) fault, refl, refl)

@@ -1,3 +1,4 @@
+pub mod Commands
 pub mod Obeying
 pub mod Parts
 pub mod Reading

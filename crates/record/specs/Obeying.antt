@@ -1,5 +1,5 @@
 -- What reading a record into a sheet answers, and what it makes of the sheet.
-use Rattle.std.specs.Prelude.{◌≡◌, ℕ, ◌+◌, ◌⊎◌, List, [], ◌∷◌, length, drop, Ok, Err}
+use Rattle.std.specs.Prelude.{◌≡◌, ℕ, ◌+◌, ◌⊎◌, List, [], ◌∷◌, length, Ok, Err}
 use Rattle.terms.specs.declared.refusal.Refusal.{Refusal}
 use Rattle.design.specs.Contents.{Contents}
 use Rattle.sheet.specs.declared.call.Call.{Call}
@@ -54,12 +54,6 @@ pub record Read (bytes : List ℕ) (before : Contents) (r : Answer) (after : Con
   pub place : at + length rest ≡ length bytes
   pub passed : Passed bytes before calls rest after
   pub stop : Stops (stage_after BeforeHull calls) at rest after r
-
--- how far a reader has come that stands at a place and a stage
-pub record SoFar (bytes : List ℕ) (before : Contents) (at : ℕ) (s : Stage) (after : Contents) : Type 0 where
-  pub calls : List Call
-  pub passed : Passed bytes before calls (drop at bytes) after
-  pub stage : s ≡ stage_after BeforeHull calls
 
 -- the answer, and what the sheet holds then, follow from the record and from what the sheet held
 abbrev pub OneReading : Type 0

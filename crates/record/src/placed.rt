@@ -2,7 +2,7 @@
 use sheet::call::Call;
 
 /// How far a reader has come.
-#[derive(Clone, Copy)]
+#[derive(Clone, Copy, PartialEq, Eq, Debug)]
 pub enum Stage {
     /// nothing has been read: the hull comes first
     BeforeHull,

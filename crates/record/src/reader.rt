@@ -1,9 +1,10 @@
 //! A reader that goes along a record.
-ghost use Rattle.std.specs.Prelude.{◌≡◌, ◌+◌, ◌≤◌, length, drop, Some, None, Ok, Err};
-ghost use Rattle.record.specs.Reading.{Told, OneAnswer, at_place};
-ghost use Rattle.record.specs.Parts.{Fronts, Stepped};
+ghost use Rattle.std.specs.Prelude.{◌≡◌, ◌+◌, ◌≤◌, length, drop, slice_index};
+ghost use Rattle.record.specs.Reading.{Told, OneAnswer};
+ghost use Rattle.record.specs.Parts.{Fronts, Awaits};
 
-use crate::commands::{amend, enter, hull, lay, strike};
+use crate::calls::{entry, hull, lay, strike};
+use crate::command::Command;
 use crate::placed::{Placed, Stage};
 use sheet::call::Call;
 use terms::ground::Ground;
@@ -16,12 +17,6 @@ pub struct Reader<'r> {
     at: usize,
     stage: Stage,
     ghost within: { at ≤ length bytes.now },
-}
-
-fn refuse(ground: Ground, at: usize) -> Result<Option<Placed>, Refusal>
-    ensures { result ≡ Err (at_place ground at) }
-{
-    Err(Refusal { ground, at })
 }
 
 impl<'r> Reader<'r> {
@@ -49,49 +44,59 @@ impl<'r> Reader<'r> {
 
     // Moves over a call that was read, if it was whole.
     fn step(&mut self, read: Option<Call>, width: usize) -> Result<Option<Placed>, Refusal>
-        requires { Fronts width read (drop self.old.at self.old.bytes.now) }
+        requires turn { Awaits self.old.stage (slice_index (drop self.old.at self.old.bytes.now) 0) width }
+        requires read { Fronts width read (drop self.old.at self.old.bytes.now) }
         ensures same { self.new.bytes.now ≡ self.old.bytes.now }
-        ensures stepped { Stepped self.old.at self.old.stage read width result self.new.at self.new.stage }
+        ensures told { Told self.old.bytes.now self.old.at self.old.stage result self.new.at self.new.stage }
     {
         let at = self.at;
-        match read {
-            Some(call) => {
-                self.stage = Stage::Body;
-                self.at = at + width;
-                Ok(Some(Placed { at, call }))
-            }
-            None => refuse(Ground::OperandsCutShort, at),
-        }
+        let call = read.ok_or(Refusal {
+            ground: Ground::OperandsCutShort,
+            at,
+        })?;
+        self.stage = Stage::Body;
+        self.at += width;
+        Ok(Some(Placed { at, call }))
     }
 
+    // Not as an iterator: a refusal leaves the reader as it was, so that a loop over one would never end.
     /// The next call of the record with its place, or none once the end has been read. A refusal leaves the reader as it was.
     pub fn next_call(&mut self) -> Result<Option<Placed>, Refusal>
         ensures same { self.new.bytes.now ≡ self.old.bytes.now }
         ensures told { Told self.old.bytes.now self.old.at self.old.stage result self.new.at self.new.stage }
     {
+        if self.stage == Stage::Ended {
+            return Ok(None);
+        }
         let at = self.at;
         let rest = self.rest();
-        let [byte, ..] = rest else {
-            return match self.stage {
-                Stage::Ended => Ok(None),
-                _ => refuse(Ground::EndMissing, at),
-            };
-        };
-        match (self.stage, *byte) {
-            (Stage::Ended, _) => Ok(None),
-            (Stage::BeforeHull, 0x01) => self.step(hull(rest), 10),
-            (Stage::Body, 0x02) => self.step(enter(rest), 20),
-            (Stage::Body, 0x03) => self.step(amend(rest), 20),
-            (Stage::Body, 0x04) => self.step(strike(rest), 3),
-            (Stage::Body, 0x05) => self.step(lay(rest), 5),
-            (Stage::Body, 0xFF) if rest.len() == 1 => {
+        let byte = rest.first().ok_or(Refusal {
+            ground: Ground::EndMissing,
+            at,
+        })?;
+        let command = Command::try_from(*byte).map_err(|ground| Refusal { ground, at })?;
+        // the hull comes first, and no other one comes after it
+        if (command == Command::Hull) != (self.stage == Stage::BeforeHull) {
+            return Err(Refusal {
+                ground: Ground::HullOutOfOrder,
+                at,
+            });
+        }
+        match command {
+            Command::Hull => self.step(hull(rest), 10),
+            Command::Enter => self.step(entry(rest).map(Call::Enter), 20),
+            Command::Amend => self.step(entry(rest).map(Call::Amend), 20),
+            Command::Strike => self.step(strike(rest), 3),
+            Command::Lay => self.step(lay(rest), 5),
+            Command::End if rest.len() > 1 => Err(Refusal {
+                ground: Ground::BytesAfterEnd,
+                at: at + 1,
+            }),
+            Command::End => {
                 self.stage = Stage::Ended;
-                self.at = at + 1;
+                self.at += 1;
                 Ok(None)
             }
-            (Stage::Body, 0xFF) => refuse(Ground::BytesAfterEnd, at + 1),
-            (_, 0x01..=0x05 | 0xFF) => refuse(Ground::HullOutOfOrder, at),
-            _ => refuse(Ground::CommandUnknown, at),
         }
     }
 }

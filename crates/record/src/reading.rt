@@ -11,13 +11,10 @@ use terms::refusal::Refusal;
 fn obey(placed: Placed, sheet: &mut Sheet<'_>) -> Result<(), Refusal>
     ensures { Obeyed (contents sheet.old) placed result (contents sheet.new) }
 {
-    match sheet.carry_out(placed.call) {
-        Ok(()) => Ok(()),
-        Err(refusal) => Err(Refusal {
-            ground: refusal.ground,
-            at: placed.at,
-        }),
-    }
+    sheet.carry_out(placed.call).map_err(|refusal| Refusal {
+        at: placed.at,
+        ..refusal
+    })
 }
 
 /// Carries out the calls of a record on a sheet, in order, up to its end or its first fault. The calls before a fault stand.

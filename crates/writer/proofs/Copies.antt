@@ -1,5 +1,5 @@
 -- A sheet is written and read back.
-use Rattle.std.proofs.Common.{◌≡◌, ℕ, ◌+◌, ◌-◌, Bool, true, false, cond, List, length, take, drop, is_some, is_ok, Some, None, Ok, Err, Option, Result, sym, refl, ap, ◌∙◌, subst, arith}
+use Rattle.std.proofs.Common.{◌≡◌, ℕ, ◌+◌, Bool, true, false, cond, List, length, take, drop, is_some, Some, None, Ok, Err, Option, sym, refl, ap, ◌∙◌, subst, arith}
 use Rattle.std.proofs.lemmas.List.{take_at}
 use Rattle.terms.specs.declared.ground.Ground.{Ground}
 use Rattle.terms.specs.declared.ground.Ground.TheVariants.{HullMissing}
@@ -9,7 +9,7 @@ use Rattle.design.specs.Contents.{Contents}
 use Rattle.sheet.specs.Calls.{Answer}
 use Rattle.record.specs.Reading.{at_place}
 use Rattle.record.specs.Obeying.{Read}
-use Rattle.writer.specs.Writing.{recorded, write_questions, count_or, over, Wrote}
+use Rattle.writer.specs.Writing.{recorded, write_questions, count_or, Wrote}
 use Rattle.writer.specs.Copying.{Proper, Unwritten, Handed}
 use Rattle.writer.proofs.Trip.{round_trip}
 
@@ -25,28 +25,19 @@ has_hull : (b : Bool) (o : Option Ground) → cond b o (Some HullMissing) ≡ No
 has_hull true o e = refl
 has_hull false o e = let z : ◌≡◌ {A = ℕ} 0 1 = cc in absurd (omega arith)
 
-module _ (c : Contents) (out : List ℕ) (before : Contents) (w : Result ℕ Refusal) (buffer : List ℕ) (wrote : Wrote c out 0 w buffer) where
-  pub unwritten : (e : Refusal) (r : Answer) → w ≡ Err e → r ≡ Err e → Unwritten c out before r buffer before
-  unwritten e r we re =
-      let g = ground_of _ (first_no (write_questions c (length out) 0)) e (sym wrote.answers ∙ we) in
-      record {
-        ground = g.0;
-        asked = g.1;
-        answers = re ∙ ap Err g.2;
-        bytes = wrote.leaves ∙ ap (λ (q : Result ℕ Refusal). cond (is_ok q) (over out 0 (recorded c)) out) we;
-        sheet = refl;
-      }
+pub unwritten : {c : Contents} {out buffer : List ℕ} {e : Refusal} → Wrote c out 0 (Err e) buffer → (before : Contents) (r : Answer) → r ≡ Err e → Unwritten c out before r buffer before
+unwritten {c} {out} {buffer} {e} wrote before r same =
+    let g = ground_of _ (first_no (write_questions c (length out) 0)) e (sym wrote.answers) in
+    record { ground = g.0; asked = g.1; answers = same ∙ ap Err g.2; bytes = wrote.leaves; sheet = refl }
 
-  pub handed : (n : ℕ) (r : Answer) (after : Contents) → Proper c → w ≡ Ok n → Read (take (n - 0) (drop 0 buffer)) before r after → Handed c out before r buffer after
-  handed n r after p we f =
-      let k = count_of (length (recorded c)) (first_no (write_questions c (length out) 0)) n (sym wrote.answers ∙ we) in
-      let b : buffer ≡ over out 0 (recorded c) = wrote.leaves ∙ ap (λ (q : Result ℕ Refusal). cond (is_ok q) (over out 0 (recorded c)) out) we in
-      let t : take (n - 0) (drop 0 buffer) ≡ recorded c =
-      ap (take (n - 0)) b ∙ take_at (recorded c) (drop (0 + length (recorded c)) out) (n - 0) (omega (arith, k.1)) in
-      let g : Read (recorded c) before r after = subst (λ (l : List ℕ). Read l before r after) t f in
-      record {
-        asked = k.0;
-        bytes = b;
-        read = g;
-        back = λ room new fits. round_trip c room p (has_hull (is_some c.hull) _ k.0) fits r after (subst (λ (q : Contents). Read (recorded c) q r after) new g);
-      }
+pub handed : {c before after : Contents} {out buffer : List ℕ} {n : ℕ} {r : Answer} → Wrote c out 0 (Ok n) buffer → Proper c → Read (take n buffer) before r after → Handed c out before r buffer after
+handed {c} {before} {after} {out} {buffer} {n} {r} wrote p f =
+    let k = count_of (length (recorded c)) (first_no (write_questions c (length out) 0)) n (sym wrote.answers) in
+    let t : take n buffer ≡ recorded c = ap (take n) wrote.leaves ∙ take_at (recorded c) (drop (0 + length (recorded c)) out) n (sym k.1) in
+    let g : Read (recorded c) before r after = subst (λ (l : List ℕ). Read l before r after) t f in
+    record {
+      asked = k.0;
+      bytes = wrote.leaves;
+      read = g;
+      back = λ room new fits. round_trip c room p (has_hull (is_some c.hull) _ k.0) fits r after (subst (λ (q : Contents). Read (recorded c) q r after) new g);
+    }

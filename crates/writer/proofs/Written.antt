@@ -1,15 +1,19 @@
--- A whole record, put part by part.
-use Rattle.std.proofs.Common.{◌≡◌, ℕ, ◌+◌, ◌-◌, ◌≤◌, List, [], ◌∷◌, ◌++◌, length, take, drop, Some, sym, refl, ap, ◌∙◌, append_assoc, arith}
-use borrow.Rule.Slice.PartMut.{put_mid}
+-- A whole record, part by part.
+use Rattle.std.proofs.Common.{◌≡◌, ℕ, ◌+◌, ◌-◌, ◌<◌, ◌≤◌, Bool, true, false, cond, is_some, nat_le, List, [], ◌∷◌, ◌++◌, length, Some, None, Ok, Err, sym, refl, ap, ◌∙◌, append_assoc, arith}
 use Rattle.std.specs.List.{flat_map}
+use Rattle.std.proofs.lemmas.Bool.{lt-leb, le-leb}
 use Rattle.std.proofs.lemmas.List.{length-append}
+use Rattle.terms.specs.declared.ground.Ground.TheVariants.{HullMissing, TooFewBytes}
 use Rattle.terms.specs.declared.hull.Hull.{Hull}
+use Rattle.terms.specs.declared.refusal.Refusal.{Refusal}
+use Rattle.terms.specs.Questions.{first_no}
 use Rattle.design.specs.declared.line.Line.{Line}
+use Rattle.design.specs.Contents.{Contents}
 use Rattle.sheet.specs.declared.call.Call.{Call}
 use Rattle.sheet.specs.declared.call.Call.TheVariants as call
+use Rattle.record.specs.Reading.{at_place}
 use Rattle.record.specs.Spelling.{spelled, all_spelled, end}
-use Rattle.writer.specs.Writing.{line_calls, record_of, line_bytes, lines_bytes}
-use Rattle.writer.proofs.Puts.{put_rest}
+use Rattle.writer.specs.Writing.{line_calls, record_of, recorded, write_questions, count_or, line_bytes, lines_bytes}
 
 -- what is spelled before more is spelled alone, and then comes more
 pub spelled_app : (x : Call) (more : List ℕ) → spelled x more ≡ spelled x [] ++ more
@@ -36,21 +40,27 @@ lines_app (l ∷ ls) more =
     ∙ sym (append_assoc (line_bytes l) (lines_bytes ls) more)
 
 module _ (h : Hull) (ls : List Line) where
-  record_is : record_of (Some h) ls ≡ (spelled (call.Hull h) [] ++ lines_bytes ls) ++ (end ∷ [])
+  pub record_is : record_of (Some h) ls ≡ (spelled (call.Hull h) [] ++ lines_bytes ls) ++ (end ∷ [])
   record_is = ap (spelled (call.Hull h)) (lines_app ls (end ∷ []))
 
   pub record_long : length (record_of (Some h) ls) ≡ length (lines_bytes ls) + 11
   record_long = ap length record_is ∙ omega (arith, length-append (lines_bytes ls) (end ∷ []))
 
-  pub put_record : (x x₁ y z : List ℕ) (n : ℕ) → length (lines_bytes ls) + 11 ≤ length x → n ≡ length (lines_bytes ls) → x₁ ≡ spelled (call.Hull h) (drop 10 x)
-      → y ≡ lines_bytes ls ++ drop (length (lines_bytes ls)) (take (length x₁ - 10) (drop 10 x₁))
-      → z ≡ end ∷ drop 1 (take (length (put_mid 10 (length x₁ - 10) x₁ y) - (10 + n)) (drop (10 + n) (put_mid 10 (length x₁ - 10) x₁ y)))
-      → put_mid (10 + n) (length (put_mid 10 (length x₁ - 10) x₁ y) - (10 + n)) (put_mid 10 (length x₁ - 10) x₁ y) z ≡ record_of (Some h) ls ++ drop (length (record_of (Some h) ls)) x
-  put_record x x₁ y z n fits e p q r =
-      let hb = spelled (call.Hull h) [] in
-      let lb = lines_bytes ls in
-      let x₂ = put_mid 10 (length x₁ - 10) x₁ y in
-      let s : x₂ ≡ (hb ++ lb) ++ drop (10 + n) x = put_rest x x₁ hb lb y 10 p refl (omega arith) q ∙ ap (λ k. (hb ++ lb) ++ drop (10 + k) x) (sym e) in
-      let k : 10 + n + 1 ≡ length (record_of (Some h) ls) = omega (arith, record_long) in
-      put_rest x x₂ (hb ++ lb) (end ∷ []) z (10 + n) s (omega (arith, length-append hb lb)) (omega arith) r
-      ∙ ap (λ w. ((hb ++ lb) ++ (end ∷ [])) ++ drop w x) k ∙ ap (λ b. b ++ drop (length (record_of (Some h) ls)) x) (sym record_is)
+-- a sheet that has a hull
+module _ (c : Contents) (h : Hull) (ls : List Line) (has : Some h ≡ c.hull) (lines : ls ≡ c.lines) where
+  pub record_same : record_of (Some h) ls ≡ recorded c
+  record_same = λ i. record_of (has i) (lines i)
+
+  -- there is room for its record from a place on, or too little
+  module _ (room place count : ℕ) (long : count ≡ length (lines_bytes ls) + 11) where
+    whole : length (recorded c) ≡ count
+    whole = omega (arith, record_long h ls, ap length record_same)
+
+    answered : (b : Bool) → nat_le (place + length (recorded c)) room ≡ b → count_or (length (recorded c)) (first_no (write_questions c room place)) ≡ count_or count (cond b None (Some TooFewBytes))
+    answered b e = λ i. count_or (whole i) (cond (is_some (sym has i)) (cond (e i) None (Some TooFewBytes)) (Some HullMissing))
+
+    pub too_few : (e : Refusal) → e ≡ at_place TooFewBytes 0 → room - place < count → Err e ≡ count_or (length (recorded c)) (first_no (write_questions c room place))
+    too_few e at short = ap Err at ∙ sym (answered false (lt-leb (place + length (recorded c)) room (omega (arith, whole))))
+
+    pub enough : count ≤ room - place → Ok count ≡ count_or (length (recorded c)) (first_no (write_questions c room place))
+    enough fits = sym (answered true (le-leb (place + length (recorded c)) room (omega (arith, whole))))

@@ -1,2 +1,3 @@
 pub mod Copying
+pub mod Putting
 pub mod Writing

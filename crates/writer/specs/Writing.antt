@@ -52,10 +52,7 @@ pub record Wrote (c : Contents) (out : List ℕ) (place : ℕ) (r : Result ℕ R
   pub answers : r ≡ count_or (length (recorded c)) (first_no (write_questions c (length out) place))
   pub leaves : after ≡ cond (is_ok r) (over out place (recorded c)) out
 
--- the bytes of what is laid on a line, of one line, and of all
-abbrev pub laid_bytes : ℕ → ℕ → List ℕ
-laid_bytes m n = all_spelled (laid_calls m n) []
-
+-- the bytes of one line, and of all
 abbrev pub line_bytes : Line → List ℕ
 line_bytes l = all_spelled (line_calls l) []
 

@@ -13,5 +13,5 @@ pub fn copy_into(sheet: &Sheet<'_>, buffer: &mut [u8], copy: &mut Sheet<'_>) -> 
     ensures copied { Copied (contents sheet.now) buffer.old (contents copy.old) result buffer.new (contents copy.new) }
 {
     let count = write_to(sheet, buffer, 0)?;
-    read_into(&buffer[0..count], copy)
+    read_into(&buffer[..count], copy)
 }

@@ -1,38 +1,30 @@
-use Rattle.std.proofs.Common.{Ok, ap, ◌∙◌, rules}
+use Rattle.std.proofs.Common.{rules}
 use Rattle.sheet.specs.Sheets.{contents}
 use Rattle.record.proofs.Along.{faulty, finished, further-on, turned_down}
 use Rattle.record.proofs.Once.{read_once}
 use Rattle.record.proofs.reading.read_into.Goals as goal
 
-pub returns-in_err-placed : goal.returns-in_err-placed
-returns-in_err-placed c =
-    record {
-      once = read_once;
-      read = faulty c.args.bytes.now c.loop-placed.reader.bytes.now (contents c.args.sheet.now) c.loop-placed.reader.at c.loop-placed.reader.stage (contents c.loop-placed.sheet) c.loop-placed.invariant.0 c.loop-placed.reader.within c.loop-placed.invariant.1
-          c.next_call.result c.in_err-placed.field-0.0 c.next_call.new.self.at c.next_call.new.self.stage c.from_residual.result c.next_call.ensures.told c.in_err-placed.was (search rules);
-    }
+pub returns-in_err-placed-clause-once : goal.returns-in_err-placed-clause-once
+returns-in_err-placed-clause-once c = read_once
+
+pub returns-in_err-placed-clause-read : goal.returns-in_err-placed-clause-read
+returns-in_err-placed-clause-read c = faulty c.loop-placed.invariant c.in_err-placed.field-0.0 _ _ c.in_err-placed.ensures.told c.from_residual.result (search rules)
 
 pub loop-placed-preserved : goal.loop-placed-preserved
-loop-placed-preserved c = (
-  c.next_call.ensures.same ∙ c.loop-placed.invariant.0,
-  further-on c.args.bytes.now c.loop-placed.reader.bytes.now (contents c.args.sheet.now) c.loop-placed.reader.at c.loop-placed.reader.stage (contents c.loop-placed.sheet) c.loop-placed.invariant.0 c.loop-placed.reader.within c.loop-placed.invariant.1
-      c.next_call.result c.in-Some.placed c.next_call.new.self.at c.next_call.new.self.stage (contents c.obey.new.sheet) c.obey.result
-      c.next_call.ensures.told (c.in_ok-placed.was ∙ ap Ok c.in-Some.is) c.obey.ensures c.in_ok-obey.was,
-)
+loop-placed-preserved c =
+    let told = rw c.in-Some.is at c.in_ok-placed.ensures.told in
+    further-on c.loop-placed.invariant c.in-Some.placed _ _ told (contents c.obey.new.sheet) c.next_call.new.self.bytes.now c.next_call.ensures.same c.next_call.new.self.within c.in_ok-obey.ensures
 
-pub returns-in_err-obey : goal.returns-in_err-obey
-returns-in_err-obey c =
-    record {
-      once = read_once;
-      read = turned_down c.args.bytes.now c.loop-placed.reader.bytes.now (contents c.args.sheet.now) c.loop-placed.reader.at c.loop-placed.reader.stage (contents c.loop-placed.sheet) c.loop-placed.invariant.0 c.loop-placed.reader.within c.loop-placed.invariant.1
-          c.next_call.result c.in-Some.placed c.next_call.new.self.at c.next_call.new.self.stage (contents c.obey.new.sheet) c.obey.result c.in_err-obey.field-0.0 c.from_residual-in_err-obey.result
-          c.next_call.ensures.told (c.in_ok-placed.was ∙ ap Ok c.in-Some.is) c.obey.ensures c.in_err-obey.was (search rules);
-    }
+pub returns-in_err-obey-clause-once : goal.returns-in_err-obey-clause-once
+returns-in_err-obey-clause-once c = read_once
 
-pub returns : goal.returns
-returns c =
-    record {
-      once = read_once;
-      read = finished c.args.bytes.now c.loop-placed.reader.bytes.now (contents c.args.sheet.now) c.loop-placed.reader.at c.loop-placed.reader.stage (contents c.loop-placed.sheet) c.loop-placed.invariant.0 c.loop-placed.reader.within c.loop-placed.invariant.1
-          c.next_call.result c.next_call.new.self.at c.next_call.new.self.stage c.next_call.ensures.told (c.in_ok-placed.was ∙ ap Ok c.in_default.is);
-    }
+pub returns-in_err-obey-clause-read : goal.returns-in_err-obey-clause-read
+returns-in_err-obey-clause-read c =
+    let told = rw c.in-Some.is at c.in_ok-placed.ensures.told in
+    turned_down c.loop-placed.invariant c.in-Some.placed _ _ told (contents c.obey.new.sheet) c.in_err-obey.field-0.0 c.in_err-obey.ensures c.from_residual-in_err-obey.result (search rules)
+
+pub returns-clause-once : goal.returns-clause-once
+returns-clause-once c = read_once
+
+pub returns-clause-read : goal.returns-clause-read
+returns-clause-read c = finished c.loop-placed.invariant _ _ (rw c.in_default.is at c.in_ok-placed.ensures.told)

@@ -4,19 +4,16 @@ use Rattle.writer.proofs.Copies.{unwritten, handed}
 use Rattle.writer.proofs.Trip.{round_trip}
 use Rattle.writer.proofs.copying.copy_into.Goals as goal
 
-pub returns-in_err-count : goal.returns-in_err-count
-returns-in_err-count c =
-    record {
-      law = round_trip;
-      copied = inl (unwritten (contents c.args.sheet.now) c.args.buffer.now (contents c.args.copy.now) c.write_to.result c.write_to.new.out c.write_to.ensures
-          c.in_err-count.field-0.0 c.from_residual.result c.in_err-count.was (search rules));
-    }
+pub returns-in_err-count-clause-law : goal.returns-in_err-count-clause-law
+returns-in_err-count-clause-law c = round_trip
 
-pub returns : goal.returns
-returns c =
+pub returns-in_err-count-clause-copied : goal.returns-in_err-count-clause-copied
+returns-in_err-count-clause-copied c = inl (unwritten c.in_err-count.ensures (contents c.args.copy.now) c.from_residual.result (search rules))
+
+pub returns-clause-law : goal.returns-clause-law
+returns-clause-law c = round_trip
+
+pub returns-clause-copied : goal.returns-clause-copied
+returns-clause-copied c =
     let s = c.args.sheet.now in
-    record {
-      law = round_trip;
-      copied = inr (handed (contents s) c.args.buffer.now (contents c.args.copy.now) c.write_to.result c.write_to.new.out c.write_to.ensures
-          c.in_ok-count.count c.read_into.result (contents c.read_into.new.sheet) (record { hull = s.proper; lines = s.limits; rising = s.climbing }) c.in_ok-count.was c.read_into.ensures.read);
-    }
+    inr (handed c.in_ok-count.ensures (record { hull = s.proper; lines = s.limits; rising = s.climbing }) c.read_into.ensures.read)
