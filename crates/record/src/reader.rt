@@ -50,10 +50,7 @@ impl<'r> Reader<'r> {
         ensures told { Told self.old.bytes.now self.old.at self.old.stage result self.new.at self.new.stage }
     {
         let at = self.at;
-        let call = read.ok_or(Refusal {
-            ground: Ground::OperandsCutShort,
-            at,
-        })?;
+        let call = read.ok_or(Ground::OperandsCutShort.at(at))?;
         self.stage = Stage::Body;
         self.at += width;
         Ok(Some(Placed { at, call }))
@@ -70,17 +67,11 @@ impl<'r> Reader<'r> {
         }
         let at = self.at;
         let rest = self.rest();
-        let byte = rest.first().ok_or(Refusal {
-            ground: Ground::EndMissing,
-            at,
-        })?;
-        let command = Command::try_from(*byte).map_err(|ground| Refusal { ground, at })?;
+        let byte = rest.first().ok_or(Ground::EndMissing.at(at))?;
+        let command = Command::try_from(*byte).map_err(|ground| ground.at(at))?;
         // the hull comes first, and no other one comes after it
         if (command == Command::Hull) != (self.stage == Stage::BeforeHull) {
-            return Err(Refusal {
-                ground: Ground::HullOutOfOrder,
-                at,
-            });
+            return Err(Ground::HullOutOfOrder.at(at));
         }
         match command {
             Command::Hull => self.step(hull(rest), 10),
@@ -88,10 +79,7 @@ impl<'r> Reader<'r> {
             Command::Amend => self.step(entry(rest).map(Call::Amend), 20),
             Command::Strike => self.step(strike(rest), 3),
             Command::Lay => self.step(lay(rest), 5),
-            Command::End if rest.len() > 1 => Err(Refusal {
-                ground: Ground::BytesAfterEnd,
-                at: at + 1,
-            }),
+            Command::End if rest.len() > 1 => Err(Ground::BytesAfterEnd.at(at + 1)),
             Command::End => {
                 self.stage = Stage::Ended;
                 self.at += 1;

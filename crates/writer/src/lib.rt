@@ -123,17 +123,11 @@ fn record_length(lines: &[Line]) -> usize
 pub fn write_to(sheet: &Sheet<'_>, out: &mut [u8], place: usize) -> Result<usize, Refusal>
     ensures { Wrote (contents sheet.now) out.old place result out.new }
 {
-    let hull = sheet.hull().ok_or(Refusal {
-        ground: Ground::HullMissing,
-        at: 0,
-    })?;
+    let hull = sheet.hull().ok_or(Ground::HullMissing.at(0))?;
     let lines = sheet.lines();
     let count = record_length(lines);
     if out.len().saturating_sub(place) < count {
-        return Err(Refusal {
-            ground: Ground::TooFewBytes,
-            at: 0,
-        });
+        return Err(Ground::TooFewBytes.at(0));
     }
     put_record(&mut out[place..], hull, lines);
     Ok(count)
