@@ -64,6 +64,7 @@ fn check_entered(line: Entry) -> Result<(), Refusal>
     line.check_limits()
 }
 
+// Book and stocks come one by one, so that of each it is promised, by its name, that it means the same after.
 /// What a member needs by itself. Refused at its mark where an entered value is, or where the book has no rule for it.
 pub fn needed<B: RuleBook, P: Stock, S: Stock>(
     book: &mut B,
