@@ -1,13 +1,14 @@
 -- Words of digits.
-use Rattle.std.proofs.Common.{◌≡◌, ℕ, ◌+◌, ◌^◌, ◌<◌, ◌&&◌, true, false, leb, ltb, List, [], ◌∷◌, length, Some, None, Bor, Result, Ok, Err, MatchResult, MatchOption, refl, ap, ◌∙◌, sym, arith, rules}
+use Rattle.std.proofs.Common.{◌≡◌, ℕ, ◌^◌, ◌<◌, ◌&&◌, true, false, leb, ltb, List, [], ◌∷◌, length, Some, Bor, Result, Ok, Err, MatchResult, MatchOption, refl, ap, ◌∙◌, sym, arith, rules}
 use Rattle.std.specs.Char.{is_ascii_digit}
 use Rattle.std.specs.List.{list_all}
 use Rattle.std.specs.Result.{OkIff, result_ok}
 use Rattle.std.specs.Str.{all_ascii_digits, IsAscii, IsUtf8}
 use Rattle.std.specs.Str.Parse.{ParsesUnsigned}
-use Rattle.std.proofs.lemmas.Bool.{and_parts, and_from, and_left, and_right, leb-true, ltb-true, lt-ltb, le-leb, cond-true, cond-false, false_from_ne_true}
+use Rattle.std.proofs.lemmas.Bool.{and_parts, and_from, leb-true, ltb-true, lt-ltb, le-leb, cond-true, cond-false, false_from_ne_true}
 use Rattle.std.proofs.lemmas.Str.Parse.{IsNumeralModel, numerals_by_fold, parse_digits}
 use Rattle.words.specs.Numbers.{value_after, number_of}
+use Rattle.words.specs.Statements.{wide}
 use Rattle.std.proofs.lemmas.Str.{IsUtf8-from_ascii}
 use Rattle.std.proofs.lemmas.Str.Ascii.{IsAscii-nil, IsAscii-cons}
 
@@ -31,18 +32,15 @@ text_of_digits Fault word (Err e) read all = absurd (read.0 (IsUtf8-from_ascii w
 pub numeral : IsNumeralModel (λ ds. all_ascii_digits ds ≡ true) (value_after 0)
 numeral = numerals_by_fold _ (search rules) value_after (search rules)
 
-module _ {E : Type 0} (k limit : ℕ) (top : limit + 1 ≡ 2 ^ k) where
-  parsed : (word : List ℕ) (r : Result ℕ E) → all_ascii_digits word ≡ true → OkIff r ((0 < length word) × (value_after 0 word < 2 ^ k)) (value_after 0 word) → number_of limit word ≡ result_ok r
+module _ {E : Type 0} where
+  parsed : (word : List ℕ) (r : Result ℕ E) → all_ascii_digits word ≡ true → OkIff r ((0 < length word) × (value_after 0 word < 2 ^ 16)) (value_after 0 word) → number_of wide word ≡ result_ok r
   parsed word (Ok n) digits is =
-      cond-true _ _ _ (and_from _ _ (lt-ltb 0 (length word) is.0.0) (and_from _ _ digits (le-leb (value_after 0 word) limit (omega arith)))) ∙ ap Some (sym is.1)
+      cond-true _ _ _ (and_from _ _ (lt-ltb 0 (length word) is.0.0) (and_from _ _ digits (le-leb (value_after 0 word) wide (omega arith)))) ∙ ap Some (sym is.1)
   parsed word (Err e) digits is =
       cond-false _ _ _ (false_from_ne_true _ (λ fits.
-      let some = and_parts (ltb 0 (length word)) (all_ascii_digits word && leb (value_after 0 word) limit) fits in
-      let low = leb-true (value_after 0 word) limit (and_parts (all_ascii_digits word) (leb (value_after 0 word) limit) some.1).1 in
+      let some = and_parts (ltb 0 (length word)) (all_ascii_digits word && leb (value_after 0 word) wide) fits in
+      let low = leb-true (value_after 0 word) wide (and_parts (all_ascii_digits word) (leb (value_after 0 word) wide) some.1).1 in
       is (ltb-true 0 (length word) some.0, omega arith)))
 
-  pub number_of-parsed : (word text : List ℕ) (r : Result ℕ E) → text ≡ word → all_ascii_digits word ≡ true → ParsesUnsigned k 10 text r → number_of limit word ≡ result_ok r
-  number_of-parsed word text r same digits parses = parsed word r digits (parse_digits numeral k word r (rw same at parses) digits)
-
-pub number_of-other : (limit : ℕ) (word : List ℕ) → all_ascii_digits word ≡ false → number_of limit word ≡ None
-number_of-other limit word other = cond-false _ _ _ (and_right (ltb 0 (length word)) _ (and_left (all_ascii_digits word) _ other))
+  pub number_of-parsed : (word text : List ℕ) (r : Result ℕ E) → text ≡ word → all_ascii_digits word ≡ true → ParsesUnsigned 16 10 text r → number_of wide word ≡ result_ok r
+  number_of-parsed word text r same digits parses = parsed word r digits (parse_digits numeral 16 word r (rw same at parses) digits)

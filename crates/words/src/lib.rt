@@ -85,6 +85,20 @@ fn read_entry(words: Words<'_>) -> Option<Entry>
     })
 }
 
+/// The statement of a form, by the words after its first.
+fn read_values(form: Form, words: Words<'_>) -> Option<Statement>
+    ensures { result ≡ statement_by form words.entry }
+{
+    match form {
+        Form::Any => None,
+        Form::Book => read_book(words).map(Statement::Book),
+        Form::Plates => read_series(words).map(Statement::Plates),
+        Form::Stiffeners => read_series(words).map(Statement::Stiffeners),
+        Form::Hull => read_hull(words).map(Statement::Hull),
+        Form::Enter => read_entry(words).map(Statement::Enter),
+    }
+}
+
 /// What a line says, or the form of statement that was expected of it.
 pub fn read_statement(line: &[u8]) -> Result<Statement, Form>
     ensures { result ≡ statement_of line.now }
@@ -94,15 +108,7 @@ pub fn read_statement(line: &[u8]) -> Result<Statement, Form>
         return Ok(Statement::Nothing);
     };
     let form = Form::from(word);
-    let statement = match form {
-        Form::Any => None,
-        Form::Book => read_book(words).map(Statement::Book),
-        Form::Plates => read_series(words).map(Statement::Plates),
-        Form::Stiffeners => read_series(words).map(Statement::Stiffeners),
-        Form::Hull => read_hull(words).map(Statement::Hull),
-        Form::Enter => read_entry(words).map(Statement::Enter),
-    };
-    statement.ok_or(form)
+    read_values(form, words).ok_or(form)
 }
 
 /// A statement that is spelled in plain words, with each number in decimal after one space, is read as that statement.

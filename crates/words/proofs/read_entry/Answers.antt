@@ -10,11 +10,6 @@ refused : (c : In_ok-mark) (k : ℕ) → k < 11 → get_or entry_limits k 0 < ge
 refused c k inside high =
     sym (ap (option_map entry_of) (over_limit entry_limits c.args.words c.in_ok-mark.field-0 refl c.in_ok-mark.ensures k inside high))
 
-pub returns-in_err-narrowed : goal.returns-in_err-narrowed
-returns-in_err-narrowed c =
-    let high = c.in_err-narrowed.ensures in
-    c.from_residual-in_err-narrowed.ensures ∙ refused (goal.at.returns-in_err-narrowed c).In_ok-mark 1 (lit< tt) (omega arith)
-
 pub returns-in_err-narrowed-2 : goal.returns-in_err-narrowed-2
 returns-in_err-narrowed-2 c =
     let high = c.in_err-narrowed-2.ensures in
