@@ -51,7 +51,7 @@ fn note_named(lines: &[Line], i: usize, pairs: &mut Pairs)
     }
 }
 
-/// Adds all pairs of touching lines, both ways, to a list that is lent: to return it would copy its whole memory.
+/// Adds all pairs of touching lines, both ways, place by place, as pairs are of places. The list is lent, since to return it would copy its whole memory, which is slower.
 pub(crate) fn note_touching(lines: &[Line], pairs: &mut Pairs)
     requires lines { length lines.now ≤ MOST_LINES }
     requires empty { pairs.old.items ≡ [] }
