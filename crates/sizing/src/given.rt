@@ -33,7 +33,7 @@ pub struct Given {
     hull: Option<Hull>,
 }
 
-// What a book, two stocks and a hull answer of a member.
+// What a book, two stocks and a hull answer of a member. Each arm stays, since each book has a type of its own.
 fn size(
     book: Book,
     mut plates: BuildUp,

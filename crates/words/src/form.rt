@@ -2,6 +2,7 @@
 ghost use Rattle.std.specs.Prelude.{◌≡◌, Some};
 ghost use Rattle.words.specs.Forms.{expected, form_of};
 
+use std::error::Error;
 use std::fmt;
 
 /// A form of statement, by its first word: what was expected of a line that does not read.
@@ -47,3 +48,5 @@ impl fmt::Display for Form {
         })
     }
 }
+
+impl Error for Form {}
