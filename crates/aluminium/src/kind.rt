@@ -29,6 +29,7 @@ pub enum Kind {
     WatertightBulkheadStiffener = 59,
 }
 
+// The conversions are alike in the three books, and stand in each: a macro of our own may write no impl. This one fixes the values of the cases.
 /// The number by which a line names the kind.
 impl From<Kind> for u8 {
     ghost from_gives = { λ kind n. n ≡ number_of kind };

@@ -2,8 +2,10 @@
 ghost use Rattle.std.specs.Prelude.{◌≡◌};
 ghost use Rattle.clauses.specs.Rounding.{divided_up, RoundedUp, per_cent, ended};
 
+use terms::limits::LARGEST_SIZE;
+
 /// The end of sizes: one above the largest.
-pub const END: u16 = 60_001;
+pub const END: u16 = LARGEST_SIZE + 1;
 
 /// `n / d` rounded up; 0 where `d` is 0.
 pub fn divided_up(n: u128, d: u128) -> u128

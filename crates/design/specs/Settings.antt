@@ -1,5 +1,5 @@
 -- What a design basis means.
-use Rattle.std.specs.Prelude.{ℕ, Bool}
+use Rattle.std.specs.Prelude.{◌≡◌, ℕ, Bool, List}
 use Rattle.terms.specs.declared.entry.Entry.{Entry}
 use Rattle.terms.specs.declared.hull.Hull.{Hull}
 use Rattle.terms.specs.Rules.{Rules, Law}
@@ -23,3 +23,8 @@ pub record Sound (s : Setting) : Type 0 where
 -- the stock that a line takes its size from
 abbrev pub stock_for : Setting → Hull → Entry → ℕ → Bool
 stock_for s hull line n = stock_of s.rules s.plates s.stiffeners hull line n
+
+-- a basis after a call that it is lent to: it means the same, and has the same parts
+pub record StillLent {D : Type 0} (setting : D → Setting) (lenders : D → List ℕ) (old new : D) : Type 0 where
+  pub same : setting new ≡ setting old
+  pub lent : lenders new ≡ lenders old

@@ -1,5 +1,6 @@
 //! Laid sizes, judged as a design.
 ghost use Rattle.std.specs.Prelude.{◌≡◌, ◌<◌, ◌&&◌, length, find, nat_lt};
+ghost use Rattle.design.specs.Settings.{StillLent};
 ghost use Rattle.design.specs.Jobs.{job_of, Kept};
 ghost use Rattle.design.specs.Lines.{there_in};
 ghost use Rattle.design.specs.Schedules.{touching, laid_sizes};
@@ -104,7 +105,8 @@ impl<D: DesignBasis> Job<'_, D> {
             .map_err(|neighbour| failure(Shortfall::BelowPull, neighbour))
     }
 
-    // The first failure of the laid sizes, line by line: by places, since it is by places that a schedule is lawful.
+    // The first failure of the laid sizes, line by line: by places alone, as the lines are the job's, and it is by places that a
+    // schedule is lawful.
     fn judge(&mut self) -> Verdict
         ensures value { Judged (job_of D.setting self.old) (laid_sizes (job_of D.setting self.old)) result }
         ensures kept { Kept D.setting D.lenders self.old self.new }
@@ -116,6 +118,7 @@ impl<D: DesignBasis> Job<'_, D> {
     }
 }
 
+// Basis, hull and lines come one by one, and no job is answered: it would hold the loans of the basis and the lines, which the caller still needs.
 /// What is asked before lines are judged or settled: the hull, where there is one, all named neighbours are there and all lines fit.
 /// Else the first question with a no; for neighbours and fits at the mark of the first line that fails.
 pub fn ready_hull<D: DesignBasis>(
@@ -124,8 +127,7 @@ pub fn ready_hull<D: DesignBasis>(
     lines: &[Line],
 ) -> Result<Hull, Refusal>
     ensures value { result ≡ ready_hull (D.setting basis.old) hull lines.now }
-    ensures same { D.setting basis.new ≡ D.setting basis.old }
-    ensures lent { D.lenders basis.new ≡ D.lenders basis.old }
+    ensures kept { StillLent D.setting D.lenders basis.old basis.new }
 {
     let hull = hull.ok_or(Ground::HullMissing.at(0))?;
     if let Some(line) = first_without_neighbour(lines) {
@@ -146,8 +148,7 @@ pub fn check_lines<D: DesignBasis>(
     lines: &[Line],
 ) -> Result<Verdict, Refusal>
     ensures value { Checks (D.setting basis.old) hull lines.now result }
-    ensures same { D.setting basis.new ≡ D.setting basis.old }
-    ensures lent { D.lenders basis.new ≡ D.lenders basis.old }
+    ensures kept { StillLent D.setting D.lenders basis.old basis.new }
 {
     let hull = ready_hull(basis, hull, lines)?;
     let mut job = Job { basis, hull, lines };

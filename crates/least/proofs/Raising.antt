@@ -25,7 +25,7 @@ begun_set j n s i v h b f = record {
 }
 
 module _ (j : Job) (sound : Sound j.setting) where
-  within : (i n : ℕ) → stocked j i n ≡ true → n ≤ 60000
+  pub within : (i n : ℕ) → stocked j i n ≡ true → n ≤ 60000
   within i n = elim (j.setting.rules.plate j.hull (entered j i)) as (λ b. cond b (j.setting.plates n) (j.setting.stiffeners n) ≡ true → n ≤ 60000)
       [ true ↦ λ e. (sound.plates n e).1 | false ↦ λ e. (sound.stiffeners n e).1 ]
 

@@ -2,6 +2,7 @@
 #![tactic(auto)]
 
 ghost use Rattle.std.specs.Prelude.{◌≡◌};
+ghost use Rattle.design.specs.Settings.{StillLent};
 ghost use Rattle.design.specs.Schedules.{job};
 ghost use Rattle.least.specs.Least.{ScheduledBy};
 
@@ -22,8 +23,7 @@ pub fn least_schedule<D: DesignBasis>(
     hull: Hull,
     lines: &[Line],
 ) -> Option<[u16; MOST_LINES]>
-    ensures same { D.setting basis.new ≡ D.setting basis.old }
-    ensures lent { D.lenders basis.new ≡ D.lenders basis.old }
+    ensures kept { StillLent D.setting D.lenders basis.old basis.new }
     ensures least { ScheduledBy (job (D.setting basis.old) hull lines.now) result }
 {
     if lines.len() > MOST_LINES {

@@ -34,7 +34,7 @@ impl<D: DesignBasis> Search<'_, D> {
         self.job.basis.next_size(hull, line.entry, floor)
     }
 
-    /// Gives each line its first size; none if a line has none.
+    /// Gives each line its first size, by its place, since a question may change the basis; none if a line has none.
     pub(crate) fn start(&mut self) -> Option<()>
         requires { length self.old.job.lines.now ≤ MOST_LINES }
         ensures kept { Kept D.setting D.lenders self.old.job self.new.job }

@@ -64,7 +64,8 @@ fn check_entered(line: Entry) -> Result<(), Refusal>
     line.check_limits()
 }
 
-// Book and stocks come one by one, so that of each it is promised, by its name, that it means the same after.
+// Book and stocks come one by one, so that of each it is promised, by its name, that it means the same after. They are not made a design basis, which would choose the
+// stock: members need no lines, and rest on the vocabulary alone.
 /// What a member needs by itself. Refused at its mark where an entered value is, or where the book has no rule for it.
 pub fn needed<B: RuleBook, P: Stock, S: Stock>(
     book: &mut B,

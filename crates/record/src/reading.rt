@@ -11,10 +11,8 @@ use terms::refusal::Refusal;
 fn obey(placed: Placed, sheet: &mut Sheet<'_>) -> Result<(), Refusal>
     ensures { Obeyed (contents sheet.old) placed result (contents sheet.new) }
 {
-    sheet.carry_out(placed.call).map_err(|refusal| Refusal {
-        at: placed.at,
-        ..refusal
-    })
+    let answer = sheet.carry_out(placed.call);
+    answer.map_err(|refusal| refusal.ground.at(placed.at))
 }
 
 /// Carries out the calls of a record on a sheet, in order, up to its end or its first fault. The calls before a fault stand.

@@ -1,6 +1,6 @@
 //! Lines of a settled sheet, laid back at their scheduled sizes.
 ghost use Rattle.std.specs.Prelude.{◌≡◌, min, length};
-ghost use Rattle.design.specs.Settings.{set_by};
+ghost use Rattle.design.specs.Settings.{StillLent, set_by};
 ghost use Rattle.register.specs.Keys.{place_of};
 ghost use Rattle.design.specs.Lines.{mark_of};
 ghost use Rattle.sheet.specs.declared.call.Call.TheVariants as asked;
@@ -18,7 +18,7 @@ use terms::refusal::Refusal;
 use terms::stock::Stock;
 use trial::Lines;
 
-// The scheduled sizes of the first lines, by their places.
+// The scheduled sizes of the first lines, by their places: written by place, since of what is written through a zip the proof knows no element.
 fn scheduled_sizes(lines: &[Line]) -> [u16; MOST_LINES]
     ensures { SizesTo lines.now (min (length lines.now) 96) result }
 {
@@ -34,10 +34,8 @@ fn scheduled_sizes(lines: &[Line]) -> [u16; MOST_LINES]
 fn size_at_place(sizes: &[u16], place: Option<usize>) -> u16
     ensures { result ≡ size_at sizes.now place }
 {
-    match place {
-        Some(place) => sizes.get(place).copied().unwrap_or(0),
-        None => 0,
-    }
+    let size = place.and_then(|place| sizes.get(place).copied());
+    size.unwrap_or(0)
 }
 
 // Lays the line of a mark at the size that stands at its place.
@@ -66,8 +64,7 @@ fn settle_back<D: DesignBasis>(
     basis: &mut D,
 ) -> Result<(), Refusal>
     ensures laid { LaidBack (D.setting basis.old) (contents sheet.old) marks.now result (contents sheet.new) }
-    ensures same { D.setting basis.new ≡ D.setting basis.old }
-    ensures lent { D.lenders basis.new ≡ D.lenders basis.old }
+    ensures kept { StillLent D.setting D.lenders basis.old basis.new }
 {
     let sizes = scheduled_sizes(sheet.lines());
     let laid = lay_each(sheet, &sizes, marks);

@@ -1,6 +1,6 @@
 //! Calls that are carried out one after the other.
 ghost use Rattle.std.specs.Prelude.{◌≡◌, min, length, take, drop};
-ghost use Rattle.design.specs.Settings.{set_by};
+ghost use Rattle.design.specs.Settings.{StillLent, set_by};
 ghost use Rattle.sheet.specs.Sheets.{contents};
 ghost use Rattle.runs.specs.Laws.{TakenFromTheCalls, CallsFixTheRun, SettleWritesTheLeast, ASettledSheetHasTheLeast, LayingMoreLowersNothing, LayingBackChangesNothing};
 ghost use Rattle.runs.specs.Runs.{Takes, Run};
@@ -15,8 +15,7 @@ use terms::stock::Stock;
 // Makes one call.
 fn perform<D: DesignBasis>(sheet: &mut Sheet<'_>, basis: &mut D, step: Step) -> Result<(), Refusal>
     ensures takes { Takes (D.setting basis.old) (contents sheet.old) step result (contents sheet.new) }
-    ensures same { D.setting basis.new ≡ D.setting basis.old }
-    ensures lent { D.lenders basis.new ≡ D.lenders basis.old }
+    ensures kept { StillLent D.setting D.lenders basis.old basis.new }
 {
     match step {
         Step::Change(call) => sheet.carry_out(call),
@@ -24,7 +23,8 @@ fn perform<D: DesignBasis>(sheet: &mut Sheet<'_>, basis: &mut D, step: Step) -> 
     }
 }
 
-// Makes the calls in order, as many as there is room for answers, and says how many.
+// Makes the calls in order, as many as there is room for answers, and says how many. Answers are written by place, since of what is written through a zip
+// the proof knows no element.
 fn perform_each<D: DesignBasis>(
     sheet: &mut Sheet<'_>,
     basis: &mut D,
@@ -34,8 +34,7 @@ fn perform_each<D: DesignBasis>(
     ensures count { result ≡ min (length steps.now) (length answers.old) }
     ensures run { Run (D.setting basis.old) (contents sheet.old) (take result steps.now) (take result answers.new) (contents sheet.new) }
     ensures rest { drop result answers.new ≡ drop result answers.old }
-    ensures same { D.setting basis.new ≡ D.setting basis.old }
-    ensures lent { D.lenders basis.new ≡ D.lenders basis.old }
+    ensures kept { StillLent D.setting D.lenders basis.old basis.new }
 {
     let count = steps.len().min(answers.len());
     for (i, step) in steps[..count].iter().enumerate() {

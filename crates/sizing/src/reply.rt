@@ -5,6 +5,7 @@ ghost use Rattle.sizing.specs.Shown.{reply_text};
 use needs::need::Need;
 use std::fmt;
 
+// Not an Option of a need: the word for nothing to say is an answer too, and prints as one.
 /// What is answered to a statement of a list of members that is taken.
 #[derive(Clone, Copy)]
 pub enum Reply {

@@ -20,6 +20,7 @@ pub enum Kind {
     InnerWallStiffener = 8,
 }
 
+// The conversions are alike in the three books, and stand in each: a macro of our own may write no impl. This one fixes the values of the cases.
 /// The number by which a line names the kind.
 impl From<Kind> for u8 {
     ghost from_gives = { λ kind n. n ≡ number_of kind };

@@ -5,7 +5,8 @@ ghost use Rattle.terms.specs.Rules.{Rules, Law};
 use crate::entry::Entry;
 use crate::hull::Hull;
 
-/// A rule book. Its answers follow from its meaning, which no question changes, so that a book may keep count of what it is asked.
+/// A rule book. Its answers follow from its meaning, which no question changes, so that a book may keep count of what it
+/// is asked; each question says so for itself, since a trait has no other place for it.
 pub trait RuleBook {
     /// the number by which a user chooses the book
     const NUMBER: u8;

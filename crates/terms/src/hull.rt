@@ -11,6 +11,6 @@ pub struct Hull {
     pub depth: u16,
     /// draught at mid-length, d
     pub draught: u16,
-    /// 0 calm, 1 sheltered or coastal
+    /// 0 calm, 1 sheltered or coastal: a number, since any other is refused by its value
     pub water: u8,
 }

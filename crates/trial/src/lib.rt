@@ -39,8 +39,8 @@ pub trait Lines {
     fn place_of(&self, mark: u16) -> Option<usize>
         ensures { result ≡ place_of mark_of mark (contents self.now).lines };
 
-    /// Lays a size at a place, and answers what lay there. A place past the end, or a size above 60,000, changes nothing, so that it asks
-    /// nothing of a trial.
+    /// Lays a size at a place, and answers what lay there. A place past the end, or a size above 60,000, changes nothing, and the
+    /// answer is then 0: it asks nothing of a trial, which holds a place that is there.
     fn put_at(&mut self, _: Key, place: usize, size: u16) -> u16
         ensures contents { contents self.new ≡ with_lines (contents self.old) (lay_at (contents self.old).lines place size) }
         ensures laid { laid self.old place size self.new }

@@ -113,10 +113,9 @@ pub fn read_statement(line: &[u8]) -> Result<Statement, Form>
 
 /// A statement that is spelled in plain words, with each number in decimal after one space, is read as that statement.
 /// The contract is all: there is nothing to run.
-pub fn reads_back() -> bool
+pub fn reads_back()
     ensures { ReadsBack }
 {
-    true
 }
 
 #[cfg(test)]

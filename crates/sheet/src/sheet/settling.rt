@@ -1,6 +1,6 @@
 //! Settling a sheet: the least lawful schedule.
 ghost use Rattle.std.specs.Prelude.{◌≡◌};
-ghost use Rattle.design.specs.Settings.{set_by};
+ghost use Rattle.design.specs.Settings.{StillLent, set_by};
 ghost use Rattle.sheet.specs.Settles.{Settles};
 ghost use Rattle.sheet.specs.Sheets.{contents};
 
@@ -17,8 +17,7 @@ impl Sheet<'_> {
     /// Settles by a design basis of any make.
     pub fn settle_by<D: DesignBasis>(&mut self, basis: &mut D) -> Result<(), Refusal>
         ensures settles { Settles (D.setting basis.old) (contents self.old) result (contents self.new) }
-        ensures same { D.setting basis.new ≡ D.setting basis.old }
-        ensures lent { D.lenders basis.new ≡ D.lenders basis.old }
+        ensures kept { StillLent D.setting D.lenders basis.old basis.new }
     {
         let hull = ready_hull(basis, self.hull(), self.lines())?;
         let found = least_schedule(basis, hull, self.lines());

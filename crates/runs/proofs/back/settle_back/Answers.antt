@@ -5,6 +5,5 @@ use Rattle.runs.proofs.back.settle_back.Goals as goal
 pub returns : goal.returns
 returns g c = record {
   laid = settled_back _ (g.D.DesignBasis.sound _) _ _ _ _ _ _ _ c.lay_each-laid.ensures c.settle_by-settled.ensures.settles c.and.ensures;
-  same = search rules;
-  lent = search rules;
+  kept = search rules;
 }

@@ -14,8 +14,8 @@ loop-i-preserved g c =
     let long : length steps ≡ n = length-take-le n c.args.steps.now (omega (arith, c.min-count.ensures)) in
     let h : c.loop-i.i < length steps = c.loop-i-test.true in
     let l : c.loop-i.i < length c.loop-i.answers = omega (arith, c.loop-i.auto.answers, c.min-count.ensures, long, h) in (
-      c.perform.ensures.same ∙ w.0,
-      c.perform.ensures.lent ∙ w.1,
+      c.perform.ensures.kept.same ∙ w.0,
+      c.perform.ensures.kept.lent ∙ w.1,
       run_next (g.D.DesignBasis.setting c.args.basis.now) (g.D.DesignBasis.setting c.loop-i.basis) w.0 (contents c.args.sheet.now) (contents c.loop-i.sheet) (contents c.perform.new.sheet)
           steps c.loop-i.answers c.loop-i.i _ c.perform.result h l w.2 c.perform.ensures.takes,
       λ k m. drop-set-lt k c.loop-i.answers c.loop-i.i c.perform.result (omega arith) ∙ w.3 k (omega arith),
