@@ -10,7 +10,8 @@ use sheet::call::Call;
 use terms::ground::Ground;
 use terms::refusal::Refusal;
 
-/// Goes along the bytes of a record, of which it takes no copy, and gives its calls one by one.
+/// Goes along the bytes of a record, of which it takes no copy, and gives its calls one by one. The offset stands beside the whole record, since it is the place
+/// of calls and of refusals.
 #[derive(Drop)]
 pub struct Reader<'r> {
     bytes: &'r [u8],

@@ -33,7 +33,7 @@ pub struct Given {
     hull: Option<Hull>,
 }
 
-// What a book, two stocks and a hull answer of a member. Each arm stays, since each book has a type of its own.
+// What a book, two stocks and a hull answer of a member: what `Given` holds, once each is there. Each arm stays, since each book has a type of its own.
 fn size(
     book: Book,
     mut plates: BuildUp,

@@ -115,8 +115,7 @@ pub fn read_statement(line: &[u8]) -> Result<Statement, Form>
 /// The contract is all: there is nothing to run.
 pub fn reads_back()
     ensures { ReadsBack }
-{
-}
+{}
 
 #[cfg(test)]
 mod tests {
