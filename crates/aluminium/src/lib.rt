@@ -57,8 +57,6 @@ fn modulus_of(factor: u16, line: Entry) -> u128
 impl Clauses for Aluminium {
     const NUMBER: u8 = 3;
 
-    ghost NUMBER = { 3 };
-
     ghost clauses = { clauses };
 
     ghost rising = { rising };

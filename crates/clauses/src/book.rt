@@ -1,5 +1,5 @@
 //! A rule book, by its clauses.
-ghost use Rattle.std.specs.Prelude.{◌≡◌, ℕ};
+ghost use Rattle.std.specs.Prelude.{◌≡◌};
 ghost use Rattle.clauses.specs.Clauses.{Clauses, Rising, rules_by, law_by};
 
 use crate::rounding::end_size;
@@ -11,8 +11,6 @@ use terms::hull::Hull;
 pub trait Clauses {
     /// the number by which a user chooses the book
     const NUMBER: u8;
-
-    ghost NUMBER: { ℕ };
 
     ghost clauses: { Clauses };
 
@@ -42,8 +40,6 @@ pub struct ByClauses<C>(pub C);
 
 impl<C: Clauses> RuleBook for ByClauses<C> {
     const NUMBER: u8 = C::NUMBER;
-
-    ghost NUMBER = { C.NUMBER };
 
     ghost meaning = { λ _. rules_by C.clauses };
 

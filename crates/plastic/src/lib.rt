@@ -68,8 +68,6 @@ fn keelson_web(hull: Hull, divisor: u8) -> u128
 impl Clauses for Plastic {
     const NUMBER: u8 = 2;
 
-    ghost NUMBER = { 2 };
-
     ghost clauses = { clauses };
 
     ghost rising = { rising };

@@ -88,6 +88,7 @@ pub struct Register<'a, E: Keyed> {
     ghost rest: { drop count slots.now ≡ replicate (length slots.now - count) E.Keyed.vacant },
 }
 
+// A method that changes elements says for itself that the places are the same: a struct has no place for what none of its methods changes.
 impl<'a, E: Keyed> Register<'a, E> {
     ghost use Rattle.register.specs.Registers.{elements_of, room_of, SamePlaces};
 

@@ -28,8 +28,6 @@ fn is_proportioned(hull: Hull) -> bool
 impl Clauses for Steel {
     const NUMBER: u8 = 1;
 
-    ghost NUMBER = { 1 };
-
     ghost clauses = { clauses };
 
     ghost rising = { rising };

@@ -1,5 +1,5 @@
 //! What is asked of a rule book.
-ghost use Rattle.std.specs.Prelude.{◌≡◌, ℕ};
+ghost use Rattle.std.specs.Prelude.{◌≡◌};
 ghost use Rattle.terms.specs.Rules.{Rules, Law};
 
 use crate::entry::Entry;
@@ -10,8 +10,6 @@ use crate::hull::Hull;
 pub trait RuleBook {
     /// the number by which a user chooses the book
     const NUMBER: u8;
-
-    ghost NUMBER: { ℕ };
 
     ghost meaning: { Self → Rules };
 

@@ -91,6 +91,7 @@ pub fn first_passing<L: Lines, B: RuleBook, P: Stock, S: Stock>(
     ensures plates { P.Stock.members plates.new ≡ P.Stock.members plates.old }
     ensures stiffeners { S.Stock.members stiffeners.new ≡ S.Stock.members stiffeners.old }
 {
+    // a loop, since of a closure that tries a size the proof knows nothing afterwards
     for size in sizes {
         if passes_with(lines, book, plates, stiffeners, mark, *size)? {
             return Ok(Some(*size));

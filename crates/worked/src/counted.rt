@@ -15,8 +15,6 @@ pub struct Counted<'b, B> {
 impl<B: RuleBook> RuleBook for Counted<'_, B> {
     const NUMBER: u8 = B::NUMBER;
 
-    ghost NUMBER = { B.RuleBook.NUMBER };
-
     ghost meaning = { λ c. B.RuleBook.meaning c.book.now };
 
     ghost law = { λ c. B.RuleBook.law c.book.now };
