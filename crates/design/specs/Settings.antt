@@ -24,7 +24,8 @@ pub record Sound (s : Setting) : Type 0 where
 abbrev pub stock_for : Setting → Hull → Entry → ℕ → Bool
 stock_for s hull line n = stock_of s.rules s.plates s.stiffeners hull line n
 
--- a basis after a call that it is lent to: it means the same, and has the same parts
+-- a basis after a call that it is lent to: it means the same, and has the same parts. It stands in the contract of each such call, since no type says what a call
+-- leaves of what it is lent.
 pub record StillLent {D : Type 0} (setting : D → Setting) (lenders : D → List ℕ) (old new : D) : Type 0 where
   pub same : setting new ≡ setting old
   pub lent : lenders new ≡ lenders old

@@ -9,7 +9,7 @@ use terms::hull::Hull;
 use terms::stock::Stock;
 
 /// What lines are designed by: a rule book, and for each line the stock that it takes its size from. No question changes it,
-/// which each says for itself, since a trait has no other place for it.
+/// which each says for itself, since a trait has no other place for it. So does each function that is lent a basis: a type speaks of one state, and this is of two.
 pub trait DesignBasis {
     ghost setting: { Self → Setting };
 

@@ -140,6 +140,7 @@ pub fn ready_hull<D: DesignBasis>(
     Ok(hull)
 }
 
+// Basis, hull and lines come one by one, since the hull may be missing, and a job has one.
 /// Reads the laid sizes as a design: it passes exactly when they are a lawful schedule, and else the first failure is named, lines and
 /// neighbours in the order in which they stand.
 pub fn check_lines<D: DesignBasis>(

@@ -54,9 +54,9 @@ impl<D: DesignBasis> Search<'_, D> {
         ensures kept { Kept D.setting D.lenders self.old.job self.new.job }
         ensures sizes { self.new.sizes ≡ self.old.sizes }
     {
-        let line = self.job.lines[pair.line as usize];
-        let other = self.job.lines[pair.by as usize];
-        let size = self.sizes[pair.by as usize];
+        let line = self.job.lines[usize::from(pair.line)];
+        let other = self.job.lines[usize::from(pair.by)];
+        let size = self.sizes[usize::from(pair.by)];
         self.job.pull(line, other, size)
     }
 
@@ -68,7 +68,7 @@ impl<D: DesignBasis> Search<'_, D> {
         ensures step { Step (job_of D.setting self.old.job) (Holds pair) self.old.sizes self.new.sizes result }
     {
         let pull = self.pull_on(pair);
-        let i = pair.line as usize;
+        let i = usize::from(pair.line);
         if pull <= self.sizes[i] {
             return Some(false);
         }

@@ -1,7 +1,7 @@
 //! What comes out of a record.
 use sheet::call::Call;
 
-/// How far a reader has come.
+/// How far a reader has come. A value and no type for each stage, since a reader moves in place, and it is the bytes that decide what stage comes next.
 #[derive(Clone, Copy, PartialEq, Eq, Debug)]
 pub enum Stage {
     /// nothing has been read: the hull comes first

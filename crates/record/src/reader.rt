@@ -43,7 +43,7 @@ impl<'r> Reader<'r> {
         &self.bytes[self.at..]
     }
 
-    // Moves over a call that was read, if it was whole.
+    // Moves over a call that was read, if it was whole. The width comes beside it, since a call that was cut short has one too.
     fn step(&mut self, read: Option<Call>, width: usize) -> Result<Option<Placed>, Refusal>
         requires turn { Awaits self.old.stage (slice_index (drop self.old.at self.old.bytes.now) 0) width }
         requires read { Fronts width read (drop self.old.at self.old.bytes.now) }

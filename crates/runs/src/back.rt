@@ -72,7 +72,7 @@ fn settle_back<D: DesignBasis>(
     laid.and(settled)
 }
 
-// Book and stocks come one by one, so that of each it is promised, by its name, that it means the same after.
+// Book and stocks come one by one, so that of each it is promised, by its name, that it means the same after; as a basis they go on from here.
 /// Lays the lines of these marks back at the sizes that the sheet has scheduled for them, one after the other, and settles again by the rule book and the stocks.
 /// Answers the first refusal among the calls. A sheet that the same book and stocks have settled comes out as it was, with those lines laid.
 pub fn lay_back<B: RuleBook, P: Stock, S: Stock>(

@@ -43,7 +43,7 @@ fn perform_each<D: DesignBasis>(
     count
 }
 
-// Book and stocks come one by one, so that of each it is promised, by its name, that it means the same after.
+// Book and stocks come one by one, so that of each it is promised, by its name, that it means the same after; as a basis they go on from here.
 /// Carries out calls in order by one rule book and two stocks, as many as there is room for answers, writes each answer, and says how many there were.
 pub fn perform_all<B: RuleBook, P: Stock, S: Stock>(
     sheet: &mut Sheet<'_>,

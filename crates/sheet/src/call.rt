@@ -2,7 +2,7 @@
 use terms::entry::Entry;
 use terms::hull::Hull;
 
-/// A call that changes a sheet.
+/// A call that changes a sheet. A value with its name and no closure, since records spell it, and what a list of calls makes of a sheet is said of the list.
 #[derive(Clone, Copy)]
 pub enum Call {
     /// set or replace the hull

@@ -120,7 +120,8 @@ impl<'t, S: Lines> Trial<'t, S> {
         self.lines.lines()
     }
 
-    // Book and stocks come one by one, so that of each it is promised, by its name, that it means the same after.
+    // Book and stocks come one by one, so that of each it is promised, by its name, that it means the same after; as a basis they go on from here.
+    // What is checked is one function, for this check and for that of a sheet: a further one for both would say this contract once more, to save the basis.
     /// Checks the design as it stands under the trial.
     pub fn check<B: RuleBook, P: Stock, Q: Stock>(
         &self,

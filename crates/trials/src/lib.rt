@@ -1,6 +1,7 @@
 //! Trials on a sheet: what a check would say with another size on one line. The sheet is as before, on whatever way a trial ends.
 //!
-//! Book and stocks come one by one in each call, so that of each it is promised, by its name, that it means the same after.
+//! Book and stocks come one by one in each call, so that of each it is promised, by its name, that it means the same after. That the lines are as before stands
+//! in each call too: it is what each is for, and no type can say it of what a call is lent.
 #![tactic(auto)]
 
 ghost use Rattle.std.specs.Prelude.{◌≡◌};

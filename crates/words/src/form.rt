@@ -8,7 +8,7 @@ use std::fmt;
 /// A form of statement, by its first word: what was expected of a line that does not read.
 #[derive(Clone, Copy, PartialEq, Eq, Debug)]
 pub enum Form {
-    /// any of the others, since the first word is none of theirs
+    /// any of the others, since the first word is none of theirs: a form like them, since what it expects is told in words as theirs is
     Any,
     Book,
     Plates,

@@ -6,7 +6,7 @@ use terms::hull::Hull;
 /// One statement of a text sheet.
 #[derive(Clone, Copy)]
 pub enum Statement {
-    /// a blank line, or only a comment
+    /// a blank line, or only a comment: a statement like the others and no absence of one, since every line is taken and answered
     Nothing,
     /// the rule book with this number
     Book(u8),

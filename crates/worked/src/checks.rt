@@ -31,7 +31,7 @@ fn said(answer: Result<Verdict, Refusal>) -> Said {
     match answer {
         Ok(Ok(())) => PASSES,
         Ok(Err(failure)) => (
-            failure.mark as usize,
+            usize::from(failure.mark),
             u8::from(failure.ground),
             failure.neighbour,
         ),

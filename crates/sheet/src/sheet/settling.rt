@@ -26,7 +26,7 @@ impl Sheet<'_> {
         Ok(())
     }
 
-    // Book and stocks come one by one, so that of each it is promised, by its name, that it means the same after.
+    // Book and stocks come one by one, so that of each it is promised, by its name, that it means the same after; as a basis they go on from here.
     /// Writes the least lawful schedule, by a rule book and two stocks of any makes, as the scheduled sizes, and makes the sheet settled.
     pub fn settle<B: RuleBook, P: Stock, S: Stock>(
         &mut self,

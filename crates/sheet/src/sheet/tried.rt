@@ -48,7 +48,8 @@ impl<'a> Lines for Sheet<'a> {
 }
 
 impl Sheet<'_> {
-    // Book and stocks come one by one, so that of each it is promised, by its name, that it means the same after.
+    // Book and stocks come one by one, so that of each it is promised, by its name, that it means the same after; as a basis they go on from here.
+    // What is checked is one function, for this check and for that under a trial: a further one for both would say this contract once more, to save the basis.
     /// Reads the laid sizes as a design, by a rule book and two stocks of any makes: it passes exactly when they are a lawful schedule, and
     /// else the first failure is named, lines and neighbours by rising mark.
     pub fn check<B: RuleBook, P: Stock, S: Stock>(
