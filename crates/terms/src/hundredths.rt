@@ -13,8 +13,7 @@ impl fmt::Display for Hundredths {
 
     fn fmt<W: fmt::Write>(&self, f: &mut fmt::Formatter<W>) -> fmt::Result {
         let whole = self.0 / 100;
-        let tenths = self.0 / 10 % 10;
-        let rest = self.0 % 10;
-        write!(f, "{whole}.{tenths}{rest}")
+        let rest = self.0 % 100;
+        write!(f, "{whole}.{rest:02}")
     }
 }

@@ -1,6 +1,6 @@
 //! The limits within which a hull and the values of a line are accepted.
 ghost use Rattle.std.specs.Prelude.{◌≡◌};
-ghost use Rattle.terms.specs.Questions.{first_no, between, hull_questions, refused_at, keeps_limits, value_questions};
+ghost use Rattle.terms.specs.Questions.{first_no, hull_questions, refused_at, keeps_limits, value_questions};
 
 use crate::entry::Entry;
 use crate::ground::Ground;
@@ -13,24 +13,19 @@ pub const LARGEST_SIZE: u16 = 60_000;
 /// The most lines of a sheet.
 pub const MOST_LINES: usize = 96;
 
-fn is_between(low: u16, high: u16, n: u16) -> bool
-    ensures { result ≡ between low high n }
-{
-    low <= n && n <= high
-}
-
 impl Hull {
     /// Refused at 0 on the first ground on which a hull is.
     pub fn check_limits(self) -> Result<(), Refusal>
         ensures { result ≡ refused_at 0 (first_no (hull_questions self)) }
     {
-        if !is_between(5_000, 19_999, self.length) {
+        if !(5_000..=19_999).contains(&self.length) {
             Err(Ground::LengthOutOfRange.at(0))
-        } else if !is_between(1_000, 8_000, self.breadth) {
+        } else if !(1_000..=8_000).contains(&self.breadth) {
             Err(Ground::BreadthOutOfRange.at(0))
-        } else if !is_between(400, 4_000, self.depth) {
+        } else if !(400..=4_000).contains(&self.depth) {
             Err(Ground::DepthOutOfRange.at(0))
-        } else if !is_between(100, self.depth, self.draught) {
+            // by comparison, since with a range that ends at the depth the proof did not close
+        } else if self.draught < 100 || self.draught > self.depth {
             Err(Ground::DraughtOutOfRange.at(0))
         } else if self.water > 1 {
             Err(Ground::WaterUnknown.at(0))

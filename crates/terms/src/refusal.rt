@@ -3,6 +3,7 @@ ghost use Rattle.std.specs.Prelude.{Some};
 ghost use Rattle.terms.specs.Grounds.{refusal_text};
 
 use crate::ground::Ground;
+use std::error::Error;
 use std::fmt;
 
 /// Why a call was refused, and where: the mark or the offset that the call's document names, or 0.
@@ -21,3 +22,5 @@ impl fmt::Display for Refusal {
         write!(f, "refused {number} at {at}")
     }
 }
+
+impl Error for Refusal {}

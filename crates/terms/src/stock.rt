@@ -2,7 +2,7 @@
 ghost use Rattle.std.specs.Prelude.{◌≡◌, ℕ, Bool};
 ghost use Rattle.terms.specs.Stocks.{Ranged, AtLeast};
 
-/// The sizes in the store, from 1 to 60,000. No question changes them.
+/// The sizes in the store, from 1 to 60,000. No question changes them, which each says for itself, since a trait has no other place for it.
 pub trait Stock {
     ghost members: { Self → ℕ → Bool };
 
