@@ -8,7 +8,7 @@ ghost use Rattle.aluminium.specs.Aluminium.{clauses, rising, aspect};
 
 use crate::kind::Kind;
 use clauses::book::Clauses;
-use clauses::panel::{Panel, bending_of};
+use clauses::panel::{Panel, bending_of, is_spanned};
 use clauses::rounding::divided_up;
 use terms::entry::Entry;
 use terms::hull::Hull;
@@ -64,9 +64,7 @@ impl Clauses for Aluminium {
     fn fits(hull: Hull, line: Entry) -> bool {
         match Kind::try_from(line.kind) {
             Ok(Kind::KeelPlate) => true,
-            Ok(_) if Aluminium::is_stiffener(line) => {
-                line.spacing > 0 && line.span > 0 && line.strength > 0
-            }
+            Ok(_) if Aluminium::is_stiffener(line) => is_spanned(line) && line.strength > 0,
             Ok(_) => line.spacing > 0 && line.spacing <= line.span && line.strength > 0,
             Err(_) => false,
         }

@@ -1,10 +1,17 @@
 //! Bending of stiffeners, and panels of plating under pressure.
-ghost use Rattle.std.specs.Prelude.{◌≡◌, ◌*◌, ◌^◌, ◌<◌};
+ghost use Rattle.std.specs.Prelude.{◌≡◌, ◌*◌, ◌^◌, ◌<◌, ◌&&◌, nat_lt};
 ghost use Rattle.clauses.specs.Least.{Least};
 ghost use Rattle.clauses.specs.Panels.{bending, stands, panel_thickness};
 
 use crate::rounding::END;
 use terms::entry::Entry;
+
+/// Whether a line has a spacing and a span.
+pub fn is_spanned(line: Entry) -> bool
+    ensures { result ≡ (nat_lt 0 line.spacing && nat_lt 0 line.span) }
+{
+    line.spacing > 0 && line.span > 0
+}
 
 /// What a stiffener's section modulus grows with: its factor, its spacing, and its span twice. The bound leaves room for one factor more.
 pub fn bending_of(factor: u16, line: Entry) -> u128

@@ -6,7 +6,7 @@ ghost use Rattle.plastic.specs.Plastic.{clauses, rising, calm, at_engine_seat, n
 
 use crate::kind::Kind;
 use clauses::book::Clauses;
-use clauses::panel::bending_of;
+use clauses::panel::{bending_of, is_spanned};
 use clauses::rounding::{divided_up, percentage};
 use terms::entry::Entry;
 use terms::hull::Hull;
@@ -17,6 +17,7 @@ pub mod kind;
 #[derive(Clone, Copy)]
 pub struct Plastic;
 
+// Water and place are numbers here too, and no kinds of their own: a hull or a line carries them as numbers, and a book only asks for one of them.
 fn is_calm(hull: Hull) -> bool
     ensures { result ≡ calm hull }
 {
@@ -75,7 +76,7 @@ impl Clauses for Plastic {
     fn fits(hull: Hull, line: Entry) -> bool {
         (7_000..12_000).contains(&hull.length)
             && Kind::try_from(line.kind).is_ok()
-            && (!Plastic::is_stiffener(line) || line.spacing > 0 && line.span > 0)
+            && (!Plastic::is_stiffener(line) || is_spanned(line))
     }
 
     fn is_stiffener(line: Entry) -> bool {
@@ -104,18 +105,13 @@ impl Clauses for Plastic {
     }
 
     fn pull(line: Entry, neighbour: Entry, size: u16) -> u128 {
-        let Ok(kind) = Kind::try_from(line.kind) else {
-            return 0;
-        };
-        let Ok(near) = Kind::try_from(neighbour.kind) else {
-            return 0;
-        };
-        match (kind, near) {
-            (Kind::FloorWeb, Kind::CentreKeelsonWeb) if is_at_engine_seat(line) => u128::from(size),
-            (Kind::FloorFace, Kind::FloorWeb) => u128::from(size),
-            (Kind::InnerBottom, Kind::Shell) => percentage(85, size),
-            (Kind::Bulwark, Kind::Shell) => percentage(80, size),
-            (Kind::JoiningAngle, Kind::Shell | Kind::Deck) => divided_up(u128::from(size), 2),
+        let whole = u128::from(size);
+        match (Kind::try_from(line.kind), Kind::try_from(neighbour.kind)) {
+            (Ok(Kind::FloorWeb), Ok(Kind::CentreKeelsonWeb)) if is_at_engine_seat(line) => whole,
+            (Ok(Kind::FloorFace), Ok(Kind::FloorWeb)) => whole,
+            (Ok(Kind::InnerBottom), Ok(Kind::Shell)) => percentage(85, size),
+            (Ok(Kind::Bulwark), Ok(Kind::Shell)) => percentage(80, size),
+            (Ok(Kind::JoiningAngle), Ok(Kind::Shell | Kind::Deck)) => divided_up(whole, 2),
             _ => 0,
         }
     }

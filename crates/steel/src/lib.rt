@@ -6,7 +6,7 @@ ghost use Rattle.steel.specs.Steel.{clauses, rising, proportioned};
 
 use crate::kind::Kind;
 use clauses::book::Clauses;
-use clauses::panel::bending_of;
+use clauses::panel::{bending_of, is_spanned};
 use clauses::rounding::{divided_up, percentage};
 use terms::entry::Entry;
 use terms::hull::Hull;
@@ -35,7 +35,7 @@ impl Clauses for Steel {
     fn fits(hull: Hull, line: Entry) -> bool {
         is_proportioned(hull)
             && Kind::try_from(line.kind).is_ok()
-            && (!Steel::is_stiffener(line) || line.spacing > 0 && line.span > 0)
+            && (!Steel::is_stiffener(line) || is_spanned(line))
     }
 
     fn is_stiffener(line: Entry) -> bool {
@@ -56,17 +56,11 @@ impl Clauses for Steel {
     }
 
     fn pull(line: Entry, neighbour: Entry, size: u16) -> u128 {
-        let Ok(kind) = Kind::try_from(line.kind) else {
-            return 0;
-        };
-        let Ok(near) = Kind::try_from(neighbour.kind) else {
-            return 0;
-        };
-        match (kind, near) {
-            (Kind::SidePlate, Kind::WatertightBulkhead)
-            | (Kind::WatertightBulkhead, Kind::SidePlate) => u128::from(size),
-            (Kind::CollisionBulkhead, Kind::WatertightBulkhead) => u128::from(size) + 100,
-            (Kind::SponsonClosingPlate, Kind::SidePlate) => percentage(80, size),
+        match (Kind::try_from(line.kind), Kind::try_from(neighbour.kind)) {
+            (Ok(Kind::SidePlate), Ok(Kind::WatertightBulkhead))
+            | (Ok(Kind::WatertightBulkhead), Ok(Kind::SidePlate)) => u128::from(size),
+            (Ok(Kind::CollisionBulkhead), Ok(Kind::WatertightBulkhead)) => u128::from(size) + 100,
+            (Ok(Kind::SponsonClosingPlate), Ok(Kind::SidePlate)) => percentage(80, size),
             _ => 0,
         }
     }
