@@ -8,6 +8,7 @@ use std::fmt;
 #[derive(Clone, Copy)]
 pub struct Hundredths(pub u16);
 
+#[tactic(auto, using(crate::proofs::Padded::two_decimals_shown))]
 impl fmt::Display for Hundredths {
     ghost output = { λ n. Some (two_decimals n.0) };
 
