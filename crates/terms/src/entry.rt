@@ -3,7 +3,7 @@ ghost use Rattle.std.specs.Prelude.{◌≡◌};
 ghost use Rattle.terms.specs.Questions.{names};
 
 /// The entered values of one line, a plate or a stiffener. Zero may stand in each but the mark.
-#[derive(Clone, Copy, Default)]
+#[derive(Clone, Copy, PartialEq, Eq, Debug, Default)]
 pub struct Entry {
     /// the line's own number, above 0
     pub mark: u16,

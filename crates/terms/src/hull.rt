@@ -1,7 +1,7 @@
 //! The hull of a sheet.
 
 /// The main dimensions of a hull, in whole millimetres, and the water that it sails.
-#[derive(Clone, Copy)]
+#[derive(Clone, Copy, PartialEq, Eq, Debug)]
 pub struct Hull {
     /// length on the load waterline, L
     pub length: u16,
