@@ -1,5 +1,6 @@
 -- A text that is cut before the first byte of which a test says true.
-use Rattle.std.proofs.Common.{◌≡◌, ℕ, ◌+◌, ◌<◌, Bool, true, false, eqb, not, List, [], ◌∷◌, ◌++◌, length, drop, All, IfSome, Some, None, unwrap_or, Option, Bor, sym, refl, ap, subst, ◌∙◌, append_assoc, append-nil, arith}
+use Rattle.std.proofs.Common.{◌≡◌, ℕ, ◌+◌, ◌<◌, Bool, true, false, eqb, not, List, [], ◌∷◌, ◌++◌, length, drop, All, IfSome, MatchOption, Some, None, unwrap_or, Option, Bor, sym, refl, ap, subst, ◌∙◌, append_assoc, append-nil, arith}
+use Rattle.std.specs.Bool.{then_some}
 use Rattle.std.specs.List.{slice_get}
 use Rattle.std.specs.Slice.{IsGetRangeResult}
 use Rattle.std.proofs.Math.Seq.{drop-append-add}
@@ -22,7 +23,7 @@ words_of-append (c ∷ cs) back before =
     let P : ℕ → Type 0 = λ c. not (blank c) ≡ false in
     cond-true _ _ _ (not-false (blank c) (All-head P c cs before)) ∙ words_of-append cs back (All-tail P c cs before)
 
-letters : (word front back : List ℕ) → All (λ c. blank c ≡ false) front → words_after word (front ++ back) ≡ words_after (word ++ front) back
+pub letters : (word front back : List ℕ) → All (λ c. blank c ≡ false) front → words_after word (front ++ back) ≡ words_after (word ++ front) back
 letters word [] back before = ap (λ w. words_after w back) (sym (append-nil word))
 letters word (c ∷ cs) back before =
     let P : ℕ → Type 0 = λ c. blank c ≡ false in
@@ -75,6 +76,11 @@ module _ {Says : ℕ → Bool → Type 0} {text blanks rest : List ℕ} (cut : I
     pub first_word : 0 < length word → words_of text ≡ word ∷ words_of later
     first_word some =
         past_blanks ∙ ap words_of next.whole ∙ letters [] word later (before next blank tells) ∙ word_ends word later some (after next blank tells)
+
+-- what there is only where a test says yes
+pub where_yes : {A : Type 0} (P : Type 0) (Q : A → Type 0) (b : Bool) (x : A) → (b ≡ false → P) → (b ≡ true → Q x) → MatchOption (then_some b x) P Q
+where_yes P Q true x none some = some refl
+where_yes P Q false x none some = none refl
 
 pub got_past : (rest : List ℕ) (got : Option (Bor (List ℕ))) (none : Bor (List ℕ)) → none.now ≡ [] → IsGetRangeResult rest 1 (length rest) got → (unwrap_or got none).now ≡ drop 1 rest
 got_past rest None none nothing is = nothing ∙ sym (drop_all 1 rest (omega arith))
