@@ -10,12 +10,15 @@ use Rattle.std.proofs.lemmas.Option.{IfSome_then}
 use Rattle.std.proofs.lemmas.Bool.{both_ways, cond-true, cond-false, not-false, not-true}
 use Rattle.words.specs.Words.{IsCut, up_to, later_lines, blank, words_after, words_of}
 
-up_to-append : (stop : ℕ) (front back : List ℕ) → All (λ c. eqb c stop ≡ false) front → IfSome (slice_get back 0) (λ c. eqb c stop ≡ true) → up_to stop (front ++ back) ≡ front
-up_to-append stop [] [] before after = refl
-up_to-append stop [] (c ∷ cs) before after = cond-true _ _ _ after
-up_to-append stop (c ∷ cs) back before after =
+pub up_to-append : (stop : ℕ) (front back : List ℕ) → All (λ c. eqb c stop ≡ false) front → up_to stop (front ++ back) ≡ front ++ up_to stop back
+up_to-append stop [] back before = refl
+up_to-append stop (c ∷ cs) back before =
     let P : ℕ → Type 0 = λ c. eqb c stop ≡ false in
-    cond-false _ _ _ (All-head P c cs before) ∙ ap (λ l. c ∷ l) (up_to-append stop cs back (All-tail P c cs before) after)
+    cond-false _ _ _ (All-head P c cs before) ∙ ap (λ l. c ∷ l) (up_to-append stop cs back (All-tail P c cs before))
+
+up_to-ended : (stop : ℕ) (back : List ℕ) → IfSome (slice_get back 0) (λ c. eqb c stop ≡ true) → up_to stop back ≡ []
+up_to-ended stop [] after = refl
+up_to-ended stop (c ∷ cs) after = cond-true _ _ _ after
 
 words_of-append : (front back : List ℕ) → All (λ c. not (blank c) ≡ false) front → words_of (front ++ back) ≡ words_of back
 words_of-append [] back before = refl
@@ -58,7 +61,7 @@ module _ {Says : ℕ → Bool → Type 0} {text line rest : List ℕ} (cut : IsC
   pub up_to_cut : (stop : ℕ) → ((c : ℕ) (r : Bool) → Says c r → r ≡ eqb c stop) → line ≡ up_to stop text
   up_to_cut stop is =
       let p : ℕ → Bool = λ c. eqb c stop in
-      sym (ap (up_to stop) cut.whole ∙ up_to-append stop line rest (before cut p is) (after cut p is))
+      sym (ap (up_to stop) cut.whole ∙ up_to-append stop line rest (before cut p is) ∙ ap (λ l. line ++ l) (up_to-ended stop rest (after cut p is)) ∙ append-nil line)
 
   pub past_line : ((c : ℕ) (r : Bool) → Says c r → r ≡ eqb c 10) → drop 1 rest ≡ later_lines text
   past_line is =
