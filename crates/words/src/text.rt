@@ -50,7 +50,7 @@ pub fn next_word(text: &[u8]) -> Option<(&[u8], &[u8])>
 }
 
 // Lines and words are two iterators of one shape, since each shows its own list of items. The library's give other items: `split` of a slice one more after the last
-// newline, and empty ones between two blanks; the lines of its byte strings come without a carriage return at the end.
+// newline, and empty ones between two blanks; the lines of its byte strings lose a carriage return before the newline, and their fields are told by decoded characters.
 /// The lines of a text, first to last.
 #[derive(Drop)]
 pub struct Lines<'a> {
