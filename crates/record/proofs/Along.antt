@@ -11,11 +11,10 @@ use Rattle.record.specs.declared.placed.Stage.TheVariants.{BeforeHull, Body, End
 use Rattle.record.specs.Spelling.{spelled, all_spelled, byte_of}
 use Rattle.record.specs.Reading.{InOrder, Told, ToldAnswer}
 use Rattle.record.specs.Obeying.{Ordered, stage_after, Accepted, Obeyed, Passed, Stops, Read}
-use Rattle.record.proofs.Steps.{hull_open, body_open}
 
-pub spelled_push : (xs : List Call) (x : Call) (more : List ℕ) → all_spelled (xs ++ x ∷ []) more ≡ all_spelled xs (spelled x more)
-spelled_push [] x more = refl
-spelled_push (y ∷ ys) x more = ap (spelled y) (spelled_push ys x more)
+pub all_join : (xs ys : List Call) (more : List ℕ) → all_spelled (xs ++ ys) more ≡ all_spelled xs (all_spelled ys more)
+all_join [] ys more = refl
+all_join (x ∷ xs) ys more = ap (spelled x) (all_join xs ys more)
 
 ordered_push : (s : Stage) (xs : List Call) (x : Call) → Ordered s xs → InOrder (stage_after s xs) (byte_of x) → Ordered s (xs ++ x ∷ [])
 ordered_push s [] x o h = (h, tt)
@@ -31,8 +30,8 @@ stage_push s [] x = refl
 stage_push s (y ∷ ys) x = refl
 
 never_ended : (xs : List Call) → stage_after BeforeHull xs ≡ Ended → ⊥
-never_ended [] = hull_open
-never_ended (x ∷ xs) = body_open
+never_ended [] e = cc
+never_ended (x ∷ xs) e = cc
 
 -- how far a reader of `bytes` has come: it has passed calls that were obeyed, and stands after them
 pub record SoFar (bytes own : List ℕ) (before : Contents) (at : ℕ) (s : Stage) (after : Contents) : Type 0 where
@@ -78,7 +77,7 @@ module _ {bytes own : List ℕ} {before : Contents} {i : ℕ} {s : Stage} {c : C
           within = near;
           calls = cs ++ p.call ∷ [];
           passed = record {
-            front = so.passed.front ∙ ap (all_spelled cs) f.2 ∙ sym (spelled_push cs p.call (drop j bytes));
+            front = so.passed.front ∙ ap (all_spelled cs) f.2 ∙ sym (all_join cs (p.call ∷ []) (drop j bytes));
             ordered = ordered_push BeforeHull cs p.call so.passed.ordered (subst (λ (q : Stage). InOrder q (byte_of p.call)) so.stage f.1);
             accepted = accepted_push before cs c p.call d so.passed.accepted ob.0 ob.1;
           };

@@ -12,7 +12,7 @@ use Rattle.record.specs.Spelling.{spelled, all_spelled, end, byte_of, width_of}
 use Rattle.record.specs.Reading.{Known, InOrder, Whole, asked, Fault, Told, ToldAnswer, at_place}
 use Rattle.record.specs.Obeying.{Ordered, stage_after, Accepted, Declined, Stops, Read}
 use Rattle.record.proofs.Back.{spelled_same}
-use Rattle.record.proofs.Steps.{byte_first, byte_below, body_open}
+use Rattle.record.proofs.Steps.{byte_first, byte_below}
 
 asked_once : (P : Type 0) (x : Refusal) (o : Refusal → Type 0) → ((e f : Refusal) → o e → o f → e ≡ f) → (e f : Refusal) → asked P x o e → asked P x o f → e ≡ f
 asked_once P x o h e f (inl a) (inl b) = a.1 ∙ sym b.1
@@ -52,12 +52,8 @@ end_no_fault s at rest f b e h =
     let o : end ≡ 1 → ⊥ = λ q. omega arith in
     no_fault Body at end [] f (inr refl) o (inl refl) (λ q. refl) (subst (λ (l : List ℕ). Fault Body at l f) e (subst (λ (q : Stage). Fault q at rest f) b h))
 
-ok_err : (u : Unit {0}) (e : Refusal) → ◌≡◌ {A = Answer} (Ok u) (Err e) → ⊥
-ok_err u e h = let z : ◌≡◌ {A = ℕ} 0 1 = cc in omega arith
-
 declined_once : (c : Contents) (x y : Call) (at : ℕ) (e f : Refusal) → x ≡ y → Declined c x at e → Declined c y at f → e ≡ f
 declined_once c x y at e f q a b =
-    let w : Err a.why ≡ Err b.why = sym a.answered ∙ ap (answer c) q ∙ b.answered in
     let v : a.why ≡ b.why = cc in
     a.placed ∙ ap (λ (k : Refusal). at_place k.ground at) v ∙ sym b.placed
 
@@ -78,8 +74,7 @@ goes_on : (s : Stage) (at : ℕ) (rest : List ℕ) (c : Contents) (r : Answer) (
 goes_on s at rest c (Ok u) x more e o a h = whole_no_end s at rest x more e o h.1
 goes_on s at rest c (Err f) x more e o a (inl h) = whole_no_fault s at rest x more e o f h
 goes_on s at rest c (Err f) x more e o a (inr h) =
-    let q : x ≡ h.0 = (spelled_same x h.0 more h.1 (sym e ∙ h.2)).0 in
-    ok_err tt h.4.why (sym a ∙ ap (answer c) q ∙ h.4.answered)
+    let q : x ≡ h.0 = (spelled_same x h.0 more h.1 (sym e ∙ h.2)).0 in cc (h.4.answered)
 
 body_after : (xs : List Call) → Body ≡ stage_after Body xs
 body_after [] = refl
@@ -126,8 +121,8 @@ module _ (xs : List ℕ) (i : ℕ) (s : Stage) where
 
   end-place : (j : ℕ) (t : Stage) (k : ℕ) (u : Stage) → Told xs i s (Ok None) j t → Told xs i s (Ok None) k u → j ≡ k
   end-place j t k u (inl a, _) (inl b, _) = a.1 ∙ sym b.1
-  end-place j t k u (inl a, _) (inr b, _) = absurd (body_open (sym b.0 ∙ a.0))
-  end-place j t k u (inr a, _) (inl b, _) = absurd (body_open (sym a.0 ∙ b.0))
+  end-place j t k u (inl a, _) (inr b, _) = cc
+  end-place j t k u (inr a, _) (inl b, _) = cc
   end-place j t k u (inr a, _) (inr b, _) = a.2 ∙ sym b.2
 
   pub told_once : (r : ToldAnswer) (j : ℕ) (t : Stage) (q : ToldAnswer) (k : ℕ) (u : Stage) → Told xs i s r j t → Told xs i s q k u → (r ≡ q) × (j ≡ k) × (t ≡ u)

@@ -58,18 +58,12 @@ low_known (suc (suc (suc (suc zero)))) l u = inl (Strike 0, refl)
 low_known (suc (suc (suc (suc (suc zero))))) l u = inl (Lay 0 0, refl)
 low_known (suc (suc (suc (suc (suc (suc n)))))) l u = absurd (omega arith)
 
-pub hull_open : BeforeHull ≡ Ended → ⊥
-hull_open e = let z : ◌≡◌ {A = ℕ} 0 1 = cc in omega arith
-
-pub body_open : Body ≡ Ended → ⊥
-body_open e = let z : ◌≡◌ {A = ℕ} 0 1 = cc in omega arith
-
 -- a call may come
 awaited : (s : Stage) (b n : ℕ) → Awaits s b n → (s ≡ Ended → ⊥) × (1 ≤ b) × (b ≤ 5) × InOrder s b
-awaited s b n (inl h, w) = ((λ e. hull_open (sym h.0 ∙ e)), omega (arith, h.1), omega (arith, h.1), subst (λ (q : Stage). InOrder q b) (sym h.0) h.1)
+awaited s b n (inl h, w) = ((λ e. cc), omega (arith, h.1), omega (arith, h.1), subst (λ (q : Stage). InOrder q b) (sym h.0) h.1)
 awaited s b n (inr h, w) =
     let o : b ≡ 1 → ⊥ = λ e. omega (arith, h.1) in
-    ((λ e. body_open (sym h.0 ∙ e)), omega (arith, h.1), h.2, subst (λ (q : Stage). InOrder q b) (sym h.0) o)
+    ((λ e. cc), omega (arith, h.1), h.2, subst (λ (q : Stage). InOrder q b) (sym h.0) o)
 
 -- a command that is cut short
 short_fault : (s : Stage) (i n : ℕ) (rest : List ℕ) → Awaits s (get_or rest 0 0) n → length rest < n → Fault s i rest (at_place OperandsCutShort i)
@@ -104,8 +98,8 @@ order_fault s i [] c e some wrong = absurd (omega arith)
 order_fault s i (b ∷ more) c e some wrong = inr (subst Known (sym e) (known c), inl ((λ o. wrong (subst (InOrder s) e o)), refl))
 
 not_ended : (s : Stage) → false ≡ sameb stages s Ended → s ≡ Ended → ⊥
-not_ended BeforeHull apart e = hull_open e
-not_ended Body apart e = body_open e
+not_ended BeforeHull apart e = cc
+not_ended Body apart e = cc
 not_ended Ended apart e = false≢true apart
 
 -- a command out of order

@@ -1,5 +1,6 @@
 //! What the commands of a record do.
-ghost use Rattle.record.specs.Commands.{Names};
+ghost use Rattle.std.specs.Prelude.{◌≡◌};
+ghost use Rattle.record.specs.Commands.{Names, first_byte};
 
 use terms::ground::Ground;
 
@@ -29,5 +30,14 @@ impl TryFrom<u8> for Command {
             0xFF => Ok(Command::End),
             _ => Err(Ground::CommandUnknown),
         }
+    }
+}
+
+/// The byte that begins the command.
+impl From<Command> for u8 {
+    ghost from_gives = { λ command byte. byte ≡ first_byte command };
+
+    fn from(command: Command) -> u8 {
+        command as u8
     }
 }

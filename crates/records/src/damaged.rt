@@ -55,7 +55,7 @@ fn cut_in(rt: &impl Abort, command: &Command) {
         let number = if length == command.start { 55 } else { 53 };
         assert_eq!(rt;
             read(&RECORD[0..length]),
-            ((number, command.start), command.before)
+            (Err((number, command.start)), command.before)
         );
     }
 }
@@ -65,16 +65,15 @@ fn cut_at_every_length(rt: HostRuntime) {
     for command in &COMMANDS {
         cut_in(&rt, command);
     }
-    assert_eq!(rt; read(&RECORD[0..WHOLE]), ((0, 0), STRUCK));
-    assert_eq!(rt; read(&RECORD), ((54, WHOLE), STRUCK));
+    assert_eq!(rt; read(&RECORD[0..WHOLE]), (Ok(()), STRUCK));
+    assert_eq!(rt; read(&RECORD), (Err((54, WHOLE)), STRUCK));
 }
 
-// One byte of the whole record is changed: the number, the place, and what stands.
+// One byte of the whole record is changed: number and place of the refusal, and what stands.
 struct Damage {
     at: usize,
     byte: u8,
-    number: u8,
-    place: usize,
+    refused: (u8, usize),
     stands: Stands,
 }
 
@@ -83,162 +82,140 @@ const DAMAGES: [Damage; 22] = [
     Damage {
         at: 0,
         byte: 0x00,
-        number: 51,
-        place: 0,
+        refused: (51, 0),
         stands: NOTHING,
     },
     Damage {
         at: 0,
         byte: 0xFE,
-        number: 51,
-        place: 0,
+        refused: (51, 0),
         stands: NOTHING,
     },
     Damage {
         at: 0,
         byte: 0xFF,
-        number: 52,
-        place: 0,
+        refused: (52, 0),
         stands: NOTHING,
     },
     Damage {
         at: 0,
         byte: 0x05,
-        number: 52,
-        place: 0,
+        refused: (52, 0),
         stands: NOTHING,
     },
     // a hull that is refused: length 16, water 2
     Damage {
         at: 1,
         byte: 0x00,
-        number: 11,
-        place: 0,
+        refused: (11, 0),
         stands: NOTHING,
     },
     Damage {
         at: 9,
         byte: 0x02,
-        number: 15,
-        place: 0,
+        refused: (15, 0),
         stands: NOTHING,
     },
     // a second hull, an unknown byte, and the end, after the hull
     Damage {
         at: 10,
         byte: 0x01,
-        number: 52,
-        place: 10,
+        refused: (52, 10),
         stands: HULL,
     },
     Damage {
         at: 10,
         byte: 0x99,
-        number: 51,
-        place: 10,
+        refused: (51, 10),
         stands: HULL,
     },
     Damage {
         at: 10,
         byte: 0xFF,
-        number: 54,
-        place: 11,
+        refused: (54, 11),
         stands: HULL,
     },
     // a line at place 3, its own neighbour, under 101 kN/m², at height 4,240
     Damage {
         at: 14,
         byte: 0x03,
-        number: 24,
-        place: 10,
+        refused: (24, 10),
         stands: HULL,
     },
     Damage {
         at: 16,
         byte: 0x0A,
-        number: 25,
-        place: 10,
+        refused: (25, 10),
         stands: HULL,
     },
     Damage {
         at: 23,
         byte: 0x65,
-        number: 26,
-        place: 10,
+        refused: (26, 10),
         stands: HULL,
     },
     Damage {
         at: 24,
         byte: 0x10,
-        number: 26,
-        place: 10,
+        refused: (26, 10),
         stands: HULL,
     },
     // laid on a line that is not there, and above the largest size
     Damage {
         at: 32,
         byte: 0x0B,
-        number: 23,
-        place: 30,
+        refused: (23, 30),
         stands: ENTERED,
     },
     Damage {
         at: 33,
         byte: 0xEB,
-        number: 28,
-        place: 30,
+        refused: (28, 30),
         stands: ENTERED,
     },
     // a mark that is taken, and mark 0
     Damage {
         at: 37,
         byte: 0x0A,
-        number: 22,
-        place: 35,
+        refused: (22, 35),
         stands: LAID,
     },
     Damage {
         at: 37,
         byte: 0x00,
-        number: 21,
-        place: 35,
+        refused: (21, 35),
         stands: LAID,
     },
     // amended and struck: not there
     Damage {
         at: 57,
         byte: 0x15,
-        number: 23,
-        place: 55,
+        refused: (23, 55),
         stands: TWO,
     },
     Damage {
         at: 77,
         byte: 0x0B,
-        number: 23,
-        place: 75,
+        refused: (23, 75),
         stands: TWO,
     },
     // a second hull cut short is a second hull; a size laid, cut short; the end too early
     Damage {
         at: 75,
         byte: 0x01,
-        number: 52,
-        place: 75,
+        refused: (52, 75),
         stands: TWO,
     },
     Damage {
         at: 75,
         byte: 0x05,
-        number: 53,
-        place: 75,
+        refused: (53, 75),
         stands: TWO,
     },
     Damage {
         at: 75,
         byte: 0xFF,
-        number: 54,
-        place: 76,
+        refused: (54, 76),
         stands: TWO,
     },
 ];
@@ -249,7 +226,7 @@ fn damaged(rt: &impl Abort, damage: &Damage) {
     bytes[damage.at] = damage.byte;
     assert_eq!(rt;
         read(&bytes[0..WHOLE]),
-        ((damage.number, damage.place), damage.stands)
+        (Err(damage.refused), damage.stands)
     );
 }
 
@@ -258,27 +235,24 @@ fn one_byte_changed(rt: HostRuntime) {
     for damage in &DAMAGES {
         damaged(&rt, damage);
     }
-    assert_eq!(rt; read(&[0xFF]), ((52, 0), NOTHING));
+    assert_eq!(rt; read(&[0xFF]), (Err((52, 0)), NOTHING));
 }
 
-// The number and the place of the refusal, or 1 and the place of a call, or nothing at the end.
-fn told(reader: &mut Reader<'_>) -> (u8, usize) {
-    match reader.next_call() {
-        Ok(Some(placed)) => (1, placed.at),
-        Ok(None) => (0, 0),
-        Err(refusal) => (u8::from(refusal.ground), refusal.at),
-    }
+// The place of the next call, or none at the end.
+fn told(reader: &mut Reader<'_>) -> Result<Option<usize>, (u8, usize)> {
+    let next = reader.next_call().map_err(numbers)?;
+    Ok(next.map(|placed| placed.at))
 }
 
 #[test]
 fn asked_again(rt: HostRuntime) {
     let mut reader = Reader::new(&RECORD[0..33]);
-    assert_eq!(rt; told(&mut reader), (1, 0));
-    assert_eq!(rt; told(&mut reader), (1, 10));
-    assert_eq!(rt; told(&mut reader), (53, 30));
-    assert_eq!(rt; told(&mut reader), (53, 30));
+    assert_eq!(rt; told(&mut reader), Ok(Some(0)));
+    assert_eq!(rt; told(&mut reader), Ok(Some(10)));
+    assert_eq!(rt; told(&mut reader), Err((53, 30)));
+    assert_eq!(rt; told(&mut reader), Err((53, 30)));
     let mut ended = Reader::new(&[0x01, 0, 0, 0, 0, 0, 0, 0, 0, 0, 0xFF]);
-    assert_eq!(rt; told(&mut ended), (1, 0));
-    assert_eq!(rt; told(&mut ended), (0, 0));
-    assert_eq!(rt; told(&mut ended), (0, 0));
+    assert_eq!(rt; told(&mut ended), Ok(Some(0)));
+    assert_eq!(rt; told(&mut ended), Ok(None));
+    assert_eq!(rt; told(&mut ended), Ok(None));
 }

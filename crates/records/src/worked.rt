@@ -23,55 +23,48 @@ pub const RECORD: [u8; 80] = [
 /// How many bytes the record has without the one that follows.
 pub const WHOLE: usize = 79;
 
-/// What stands on a sheet: the hull's length, or 0 without a hull, how many lines, and kind and laid size of the first.
+/// What stands on a sheet: the hull's length, how many lines, and kind and laid size of the first.
 #[derive(Clone, Copy, PartialEq, Eq, Debug)]
 pub struct Stands {
-    pub hull: u16,
+    pub hull: Option<u16>,
     pub lines: usize,
-    pub kind: u8,
-    pub laid: u16,
+    pub first: Option<(u8, u16)>,
 }
 
 pub const NOTHING: Stands = Stands {
-    hull: 0,
+    hull: None,
     lines: 0,
-    kind: 0,
-    laid: 0,
+    first: None,
 };
 
 pub const HULL: Stands = Stands {
-    hull: 10_000,
+    hull: Some(10_000),
     lines: 0,
-    kind: 0,
-    laid: 0,
+    first: None,
 };
 
 pub const ENTERED: Stands = Stands {
-    hull: 10_000,
+    hull: Some(10_000),
     lines: 1,
-    kind: 21,
-    laid: 0,
+    first: Some((21, 0)),
 };
 
 pub const LAID: Stands = Stands {
-    hull: 10_000,
+    hull: Some(10_000),
     lines: 1,
-    kind: 21,
-    laid: 1_000,
+    first: Some((21, 1_000)),
 };
 
 pub const TWO: Stands = Stands {
-    hull: 10_000,
+    hull: Some(10_000),
     lines: 2,
-    kind: 21,
-    laid: 1_000,
+    first: Some((21, 1_000)),
 };
 
 pub const STRUCK: Stands = Stands {
-    hull: 10_000,
+    hull: Some(10_000),
     lines: 1,
-    kind: 29,
-    laid: 0,
+    first: Some((29, 0)),
 };
 
 /// A line that is in memory before a sheet is opened over it.
@@ -95,35 +88,25 @@ pub fn blank() -> Line {
     }
 }
 
-/// The number and the place of a refusal, both 0 where there is none.
-pub fn number(answer: Result<(), Refusal>) -> (u8, usize) {
-    match answer {
-        Ok(()) => (0, 0),
-        Err(refusal) => (u8::from(refusal.ground), refusal.at),
-    }
+/// The number and the place of a refusal.
+pub fn numbers(refusal: Refusal) -> (u8, usize) {
+    (u8::from(refusal.ground), refusal.at)
 }
 
 /// What stands on a sheet.
 pub fn standing(sheet: &Sheet<'_>) -> Stands {
-    let hull = match sheet.hull() {
-        Some(hull) => hull.length,
-        None => 0,
-    };
-    match sheet.lines() {
-        [first, ..] => Stands {
-            hull,
-            lines: sheet.lines().len(),
-            kind: first.entry.kind,
-            laid: first.laid,
-        },
-        [] => Stands { hull, ..NOTHING },
+    let lines = sheet.lines();
+    Stands {
+        hull: sheet.hull().map(|hull| hull.length),
+        lines: lines.len(),
+        first: lines.first().map(|line| (line.entry.kind, line.laid)),
     }
 }
 
 /// Reads bytes into a new sheet of three lines.
-pub fn read(bytes: &[u8]) -> ((u8, usize), Stands) {
+pub fn read(bytes: &[u8]) -> (Result<(), (u8, usize)>, Stands) {
     let mut memory = [blank(); 3];
     let mut sheet = Sheet::new(&mut memory);
-    let answer = number(read_into(bytes, &mut sheet));
+    let answer = read_into(bytes, &mut sheet).map_err(numbers);
     (answer, standing(&sheet))
 }

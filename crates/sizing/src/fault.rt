@@ -19,6 +19,7 @@ pub enum Fault {
     Expected(Form),
 }
 
+// By hand, since the text is promised: what the library's derive of messages writes has no contract.
 impl fmt::Display for Fault {
     ghost output = { λ fault. Some (fault_text fault) };
 

@@ -1,18 +1,20 @@
 -- A statement that is spelled is read back.
-use Rattle.std.proofs.Common.{◌≡◌, ℕ, ◌^◌, ◌<◌, ◌≤◌, true, false, eqb, leb, List, [], ◌∷◌, ◌++◌, map, length, get_or, Some, Ok, decimal, sym, refl, ap, ◌∙◌, arith, lit<}
+use Rattle.std.proofs.Common.{◌≡◌, ℕ, ◌^◌, ◌<◌, ◌≤◌, true, false, eqb, leb, List, [], ◌∷◌, ◌++◌, map, length, get_or, All, Some, Ok, decimal, refl, ap, ◌∙◌, arith, lit<}
 use Rattle.std.specs.Char.{is_ascii_digit}
 use Rattle.std.specs.Option.{option_map, ok_or}
 use Rattle.std.specs.Str.{all_ascii_digits}
 use Rattle.std.proofs.lemmas.Fmt.{decimal_nonempty, digits_decimal, digits_value-decimal}
-use Rattle.std.proofs.lemmas.List.{append_assoc, append-nil}
-use Rattle.std.proofs.lemmas.Bool.{and_parts, and_from, or_from, cond-true, cond-false, le-leb, leb-true, lt-ltb, ne_eqb}
+use Rattle.std.proofs.lemmas.List.Elements.{All-weaker}
+use Rattle.std.proofs.lemmas.List.Sums.{AllPass-from_list_all}
+use Rattle.std.proofs.lemmas.Bool.{and_parts, and_from, or_from, cond-true, le-leb, leb-true, lt-ltb, ne_eqb}
 use Rattle.words.specs.declared.form.Form.{Form}
 use Rattle.words.specs.declared.form.Form.TheVariants as form
 use Rattle.words.specs.declared.statement.Statement.{Statement}
 use Rattle.words.specs.declared.statement.Statement.TheVariants.{Nothing, Book, Plates, Stiffeners, Enter}
 use Rattle.words.specs.declared.statement.Statement.TheVariants as statement
 use Rattle.words.proofs.Bounds.{lows}
-use Rattle.words.proofs.Digits.{numeral}
+use Rattle.words.proofs.Cuts.{letters, up_to-append}
+use Rattle.words.proofs.Digits.{list_all-digits, numeral}
 use Rattle.words.specs.Numbers.{value_after, number_of, before, numbers_of}
 use Rattle.words.specs.Spelled.{AtMost, InFields, ReadsBack, first_word, its_numbers, its_limits, spelled_numbers, spelled}
 use Rattle.words.specs.Statements.{wide, series_of, hull_of, entry_of, by_words, statement_of}
@@ -29,17 +31,16 @@ digit_mark c is =
     let low = leb-true 48 c (and_parts (leb 48 c) (leb c 57) is).0 in
     ne_eqb c 35 (λ e. omega arith)
 
+all_digits : (ds : List ℕ) → all_ascii_digits ds ≡ true → All (λ c. is_ascii_digit c ≡ true) ds
+all_digits ds all = AllPass-from_list_all is_ascii_digit ds (list_all-digits ds ∙ all)
+
 uncommented_digits : (ds rest : List ℕ) → all_ascii_digits ds ≡ true → uncommented (ds ++ rest) ≡ ds ++ uncommented rest
-uncommented_digits [] rest all = refl
-uncommented_digits (c ∷ cs) rest all =
-    let parts = and_parts (is_ascii_digit c) (all_ascii_digits cs) all in
-    cond-false _ _ _ (digit_mark c parts.0) ∙ ap (λ l. c ∷ l) (uncommented_digits cs rest parts.1)
+uncommented_digits ds rest all =
+    up_to-append 35 ds rest (All-weaker (λ c. is_ascii_digit c ≡ true) (λ c. eqb c 35 ≡ false) digit_mark ds (all_digits ds all))
 
 words_digits : (word ds rest : List ℕ) → all_ascii_digits ds ≡ true → words_after word (ds ++ rest) ≡ words_after (word ++ ds) rest
-words_digits word [] rest all = ap (λ w. words_after w rest) (sym (append-nil word))
-words_digits word (c ∷ cs) rest all =
-    let parts = and_parts (is_ascii_digit c) (all_ascii_digits cs) all in
-    cond-false _ _ _ (digit_blank c parts.0) ∙ words_digits (word ++ c ∷ []) cs rest parts.1 ∙ ap (λ w. words_after w rest) (append_assoc word (c ∷ []) cs)
+words_digits word ds rest all =
+    letters word ds rest (All-weaker (λ c. is_ascii_digit c ≡ true) (λ c. blank c ≡ false) digit_blank ds (all_digits ds all))
 
 -- numbers that `decimal` writes
 abbrev Low : List ℕ → Type 0

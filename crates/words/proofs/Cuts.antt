@@ -1,5 +1,6 @@
 -- A text that is cut before the first byte of which a test says true.
-use Rattle.std.proofs.Common.{◌≡◌, ℕ, ◌+◌, ◌<◌, Bool, true, false, eqb, not, List, [], ◌∷◌, ◌++◌, length, drop, All, IfSome, Some, None, unwrap_or, Option, Bor, sym, refl, ap, subst, ◌∙◌, append_assoc, append-nil, arith}
+use Rattle.std.proofs.Common.{◌≡◌, ℕ, ◌+◌, ◌<◌, Bool, true, false, eqb, not, List, [], ◌∷◌, ◌++◌, length, drop, All, IfSome, MatchOption, Some, None, unwrap_or, Option, Bor, sym, refl, ap, subst, ◌∙◌, append_assoc, append-nil, arith}
+use Rattle.std.specs.Bool.{then_some}
 use Rattle.std.specs.List.{slice_get}
 use Rattle.std.specs.Slice.{IsGetRangeResult}
 use Rattle.std.proofs.Math.Seq.{drop-append-add}
@@ -9,12 +10,15 @@ use Rattle.std.proofs.lemmas.Option.{IfSome_then}
 use Rattle.std.proofs.lemmas.Bool.{both_ways, cond-true, cond-false, not-false, not-true}
 use Rattle.words.specs.Words.{IsCut, up_to, later_lines, blank, words_after, words_of}
 
-up_to-append : (stop : ℕ) (front back : List ℕ) → All (λ c. eqb c stop ≡ false) front → IfSome (slice_get back 0) (λ c. eqb c stop ≡ true) → up_to stop (front ++ back) ≡ front
-up_to-append stop [] [] before after = refl
-up_to-append stop [] (c ∷ cs) before after = cond-true _ _ _ after
-up_to-append stop (c ∷ cs) back before after =
+pub up_to-append : (stop : ℕ) (front back : List ℕ) → All (λ c. eqb c stop ≡ false) front → up_to stop (front ++ back) ≡ front ++ up_to stop back
+up_to-append stop [] back before = refl
+up_to-append stop (c ∷ cs) back before =
     let P : ℕ → Type 0 = λ c. eqb c stop ≡ false in
-    cond-false _ _ _ (All-head P c cs before) ∙ ap (λ l. c ∷ l) (up_to-append stop cs back (All-tail P c cs before) after)
+    cond-false _ _ _ (All-head P c cs before) ∙ ap (λ l. c ∷ l) (up_to-append stop cs back (All-tail P c cs before))
+
+up_to-ended : (stop : ℕ) (back : List ℕ) → IfSome (slice_get back 0) (λ c. eqb c stop ≡ true) → up_to stop back ≡ []
+up_to-ended stop [] after = refl
+up_to-ended stop (c ∷ cs) after = cond-true _ _ _ after
 
 words_of-append : (front back : List ℕ) → All (λ c. not (blank c) ≡ false) front → words_of (front ++ back) ≡ words_of back
 words_of-append [] back before = refl
@@ -22,7 +26,7 @@ words_of-append (c ∷ cs) back before =
     let P : ℕ → Type 0 = λ c. not (blank c) ≡ false in
     cond-true _ _ _ (not-false (blank c) (All-head P c cs before)) ∙ words_of-append cs back (All-tail P c cs before)
 
-letters : (word front back : List ℕ) → All (λ c. blank c ≡ false) front → words_after word (front ++ back) ≡ words_after (word ++ front) back
+pub letters : (word front back : List ℕ) → All (λ c. blank c ≡ false) front → words_after word (front ++ back) ≡ words_after (word ++ front) back
 letters word [] back before = ap (λ w. words_after w back) (sym (append-nil word))
 letters word (c ∷ cs) back before =
     let P : ℕ → Type 0 = λ c. blank c ≡ false in
@@ -57,7 +61,7 @@ module _ {Says : ℕ → Bool → Type 0} {text line rest : List ℕ} (cut : IsC
   pub up_to_cut : (stop : ℕ) → ((c : ℕ) (r : Bool) → Says c r → r ≡ eqb c stop) → line ≡ up_to stop text
   up_to_cut stop is =
       let p : ℕ → Bool = λ c. eqb c stop in
-      sym (ap (up_to stop) cut.whole ∙ up_to-append stop line rest (before cut p is) (after cut p is))
+      sym (ap (up_to stop) cut.whole ∙ up_to-append stop line rest (before cut p is) ∙ ap (λ l. line ++ l) (up_to-ended stop rest (after cut p is)) ∙ append-nil line)
 
   pub past_line : ((c : ℕ) (r : Bool) → Says c r → r ≡ eqb c 10) → drop 1 rest ≡ later_lines text
   past_line is =
@@ -75,6 +79,11 @@ module _ {Says : ℕ → Bool → Type 0} {text blanks rest : List ℕ} (cut : I
     pub first_word : 0 < length word → words_of text ≡ word ∷ words_of later
     first_word some =
         past_blanks ∙ ap words_of next.whole ∙ letters [] word later (before next blank tells) ∙ word_ends word later some (after next blank tells)
+
+-- what there is only where a test says yes
+pub where_yes : {A : Type 0} (P : Type 0) (Q : A → Type 0) (b : Bool) (x : A) → (b ≡ false → P) → (b ≡ true → Q x) → MatchOption (then_some b x) P Q
+where_yes P Q true x none some = some refl
+where_yes P Q false x none some = none refl
 
 pub got_past : (rest : List ℕ) (got : Option (Bor (List ℕ))) (none : Bor (List ℕ)) → none.now ≡ [] → IsGetRangeResult rest 1 (length rest) got → (unwrap_or got none).now ≡ drop 1 rest
 got_past rest None none nothing is = nothing ∙ sym (drop_all 1 rest (omega arith))

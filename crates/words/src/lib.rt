@@ -120,56 +120,56 @@ pub fn reads_back()
 #[cfg(test)]
 mod tests {
     use super::*;
-    use std::test::Fail;
 
     #[test]
     fn lines_are_read(rt: HostRuntime) {
-        assert!(rt;
-            matches!(
-                read_statement(b"\t # only a comment\r"),
-                Ok(Statement::Nothing)
-            )
+        assert_eq!(rt;
+            read_statement(b"\t # only a comment\r"),
+            Ok(Statement::Nothing)
         );
-        assert!(rt; matches!(read_statement(b"book 003"), Ok(Statement::Book(3))));
-        assert!(rt;
-            matches!(
-                read_statement(b"plates 40\t5 20\r"),
-                Ok(Statement::Plates(Series {
-                    first: 40,
-                    step: 5,
-                    count: 20
-                }))
-            )
+        assert_eq!(rt; read_statement(b"book 003"), Ok(Statement::Book(3)));
+        assert_eq!(rt;
+            read_statement(b"plates 40\t5 20\r"),
+            Ok(Statement::Plates(Series {
+                first: 40,
+                step: 5,
+                count: 20,
+            }))
         );
     }
 
     #[test]
-    fn an_entry_is_read(rt: HostRuntime) -> Result<(), Fail> {
-        let Ok(Statement::Enter(line)) = read_statement(
-            b"  enter 10 41 0 0 0 300 600 20 0 125 40 # keel",
-        ) else {
-            return Err(Fail::new("not read"));
-        };
-        assert!(rt; line.mark == 10 && line.kind == 41 && line.spacing == 300 && line.span == 600);
-        assert!(rt; line.pressure == 20 && line.strength == 125 && line.area == 40);
-        Ok(())
+    fn an_entry_is_read(rt: HostRuntime) {
+        assert_eq!(rt;
+            read_statement(b"  enter 10 41 0 0 0 300 600 20 0 125 40 # keel"),
+            Ok(Statement::Enter(Entry {
+                mark: 10,
+                kind: 41,
+                spacing: 300,
+                span: 600,
+                pressure: 20,
+                strength: 125,
+                area: 40,
+                ..Entry::default()
+            }))
+        );
     }
 
     #[test]
     fn other_lines_are_refused(rt: HostRuntime) {
         assert_eq!(rt;
-            read_statement(b"enter 10 41 0 0 0 300 600 256 0 125 40").err(),
-            Some(Form::Enter)
+            read_statement(b"enter 10 41 0 0 0 300 600 256 0 125 40"),
+            Err(Form::Enter)
         );
         assert_eq!(rt;
-            read_statement(b"enter 10 41 0 0 0 300 600 20 0 125").err(),
-            Some(Form::Enter)
+            read_statement(b"enter 10 41 0 0 0 300 600 20 0 125"),
+            Err(Form::Enter)
         );
         assert_eq!(rt;
-            read_statement(b"hull 9000 3000 1500 600 +1").err(),
-            Some(Form::Hull)
+            read_statement(b"hull 9000 3000 1500 600 +1"),
+            Err(Form::Hull)
         );
-        assert_eq!(rt; read_statement(b"book 300").err(), Some(Form::Book));
-        assert_eq!(rt; read_statement(b"Book 3").err(), Some(Form::Any));
+        assert_eq!(rt; read_statement(b"book 300"), Err(Form::Book));
+        assert_eq!(rt; read_statement(b"Book 3"), Err(Form::Any));
     }
 }

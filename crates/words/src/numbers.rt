@@ -6,6 +6,7 @@ ghost use Rattle.words.specs.Statements.{wide};
 
 use crate::text::Words;
 
+// By `if`: the text is an Option already, and `then` would put it into another.
 /// A word as text, if it is digits alone.
 fn digits(word: &[u8]) -> Option<&str>
     ensures { MatchOption result (all_ascii_digits word.now ≡ false) (λ text. (text.now ≡ word.now) × (all_ascii_digits word.now ≡ true)) }
@@ -24,6 +25,7 @@ fn number(word: &[u8]) -> Option<u16>
     digits(word)?.parse().ok()
 }
 
+// By a loop: `array::try_from_fn` asks that an iterator over the array fit in memory, which nothing says of each N.
 /// The words as so many numbers, and no word more.
 pub fn numbers<const N: usize>(mut words: Words<'_>) -> Option<[u16; N]>
     ensures { result ≡ numbers_of (replicate N wide) words.entry }

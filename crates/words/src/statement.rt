@@ -4,7 +4,7 @@ use terms::entry::Entry;
 use terms::hull::Hull;
 
 /// One statement of a text sheet.
-#[derive(Clone, Copy)]
+#[derive(Clone, Copy, PartialEq, Eq, Debug)]
 pub enum Statement {
     /// a blank line, or only a comment: a statement like the others and no absence of one, since every line is taken and answered
     Nothing,

@@ -46,13 +46,11 @@ pub fn next_word(text: &[u8]) -> Option<(&[u8], &[u8])>
 {
     let (_, text) = split_before(text, |byte| !is_blank(byte));
     let (word, rest) = split_before(text, is_blank);
-    if word.is_empty() {
-        None
-    } else {
-        Some((word, rest))
-    }
+    (!word.is_empty()).then_some((word, rest))
 }
 
+// Lines and words are two iterators of one shape, since each shows its own list of items. The library's give other items: `split` of a slice one more after the last
+// newline, and empty ones between two blanks; the lines of its byte strings lose a carriage return before the newline, and their fields are told by decoded characters.
 /// The lines of a text, first to last.
 #[derive(Drop)]
 pub struct Lines<'a> {

@@ -1,5 +1,5 @@
 -- A sheet is written and read back.
-use Rattle.std.proofs.Common.{◌≡◌, ℕ, ◌+◌, Bool, true, false, cond, List, length, take, drop, is_some, Some, None, Ok, Err, Option, sym, refl, ap, ◌∙◌, subst, arith}
+use Rattle.std.proofs.Common.{◌≡◌, ℕ, ◌+◌, Bool, true, false, cond, List, length, take, drop, is_some, Some, None, Ok, Err, Option, sym, refl, ap, ◌∙◌, subst}
 use Rattle.std.proofs.lemmas.List.{take_at}
 use Rattle.terms.specs.declared.ground.Ground.{Ground}
 use Rattle.terms.specs.declared.ground.Ground.TheVariants.{HullMissing}
@@ -14,16 +14,16 @@ use Rattle.writer.specs.Copying.{Proper, Unwritten, Handed}
 use Rattle.writer.proofs.Trip.{round_trip}
 
 ground_of : (n : ℕ) (o : Option Ground) (e : Refusal) → count_or n o ≡ Err e → (g : Ground) × (o ≡ Some g) × (e ≡ at_place g 0)
-ground_of n None e h = let z : ◌≡◌ {A = ℕ} 0 1 = cc in absurd (omega arith)
-ground_of n (Some g) e h = let q : at_place g 0 ≡ e = cc in (g, refl, sym q)
+ground_of n None e h = cc
+ground_of n (Some g) e h = (g, refl, (cc))
 
 count_of : (n : ℕ) (o : Option Ground) (m : ℕ) → count_or n o ≡ Ok m → (o ≡ None) × (m ≡ n)
-count_of n None m h = let q : n ≡ m = cc in (refl, sym q)
-count_of n (Some g) m h = let z : ◌≡◌ {A = ℕ} 0 1 = cc in absurd (omega arith)
+count_of n None m h = (refl, (cc))
+count_of n (Some g) m h = cc
 
 has_hull : (b : Bool) (o : Option Ground) → cond b o (Some HullMissing) ≡ None → b ≡ true
 has_hull true o e = refl
-has_hull false o e = let z : ◌≡◌ {A = ℕ} 0 1 = cc in absurd (omega arith)
+has_hull false o e = cc
 
 pub unwritten : {c : Contents} {out buffer : List ℕ} {e : Refusal} → Wrote c out 0 (Err e) buffer → (before : Contents) (r : Answer) → r ≡ Err e → Unwritten c out before r buffer before
 unwritten {c} {out} {buffer} {e} wrote before r same =

@@ -25,13 +25,13 @@ use Rattle.writer.proofs.Written.{record_long}
 -- questions that all have a yes
 none_from : (o : Option Ground) → not (is_some o) ≡ true → o ≡ None
 none_from None e = refl
-none_from (Some g) e = let z : ◌≡◌ {A = ℕ} 0 1 = cc in absurd (omega arith)
+none_from (Some g) e = cc
 
 first_no_app : (qs others : List Question) → all_yes qs ≡ true → first_no (qs ++ others) ≡ first_no others
 first_no_app [] others e = refl
 first_no_app (q ∷ qs) others e =
     elim q.yes as (λ b. not (is_some (cond b (first_no qs) (Some q.ground))) ≡ true → cond b (first_no (qs ++ others)) (Some q.ground) ≡ first_no others)
-    [ true ↦ first_no_app qs others | false ↦ λ h. let z : ◌≡◌ {A = ℕ} 0 1 = cc in absurd (omega arith) ] e
+    [ true ↦ first_no_app qs others | false ↦ λ h. cc ] e
 
 -- every mark is at most low
 abbrev AtMost : ℕ → List Line → Type 0
@@ -147,7 +147,7 @@ reads_back h ls room kept up limits fits = record {
 
 reads_with : (o : Option Hull) (ls : List Line) (room : ℕ) → hull_kept o ≡ true → is_some o ≡ true → climbs mark_of 0 ls ≡ true → each line_kept ls ≡ true → length ls ≤ room
     → Read (record_of o ls) (new_sheet room) (Ok tt) (record { hull = o; lines = map unscheduled ls; settled = false; room = room })
-reads_with None ls room kept there_in up limits fits = let z : ◌≡◌ {A = ℕ} 0 1 = cc in absurd (omega arith)
+reads_with None ls room kept there_in up limits fits = cc
 reads_with (Some h) ls room kept there_in up limits fits = reads_back h ls room kept up limits fits
 
 pub round_trip : (c : Contents) (room : ℕ) → Proper c → is_some c.hull ≡ true → length c.lines ≤ room

@@ -13,6 +13,7 @@ use Rattle.sheet.specs.declared.call.Call.{Call}
 use Rattle.sheet.specs.declared.call.Call.TheVariants as call
 use Rattle.record.specs.Reading.{at_place}
 use Rattle.record.specs.Spelling.{spelled, all_spelled, end}
+use Rattle.record.proofs.Along.{all_join}
 use Rattle.writer.specs.Writing.{line_calls, record_of, recorded, write_questions, count_or, line_bytes, lines_bytes}
 
 -- what is spelled before more is spelled alone, and then comes more
@@ -28,10 +29,6 @@ all_app [] more = refl
 all_app (x ∷ xs) more =
     ap (spelled x) (all_app xs more) ∙ spelled_app x (all_spelled xs [] ++ more)
     ∙ sym (append_assoc (spelled x []) (all_spelled xs []) more) ∙ ap (λ l. l ++ more) (sym (spelled_app x (all_spelled xs [])))
-
-all_join : (xs ys : List Call) (more : List ℕ) → all_spelled (xs ++ ys) more ≡ all_spelled xs (all_spelled ys more)
-all_join [] ys more = refl
-all_join (x ∷ xs) ys more = ap (spelled x) (all_join xs ys more)
 
 lines_app : (ls : List Line) (more : List ℕ) → all_spelled (flat_map line_calls ls) more ≡ lines_bytes ls ++ more
 lines_app [] more = refl

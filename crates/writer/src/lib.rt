@@ -25,7 +25,7 @@ fn hull_bytes(hull: Hull) -> [u8; 10]
     let [b1, b0] = hull.breadth.to_be_bytes();
     let [d1, d0] = hull.depth.to_be_bytes();
     let [t1, t0] = hull.draught.to_be_bytes();
-    let command = Command::Hull as u8;
+    let command = u8::from(Command::Hull);
     [command, l1, l0, b1, b0, d1, d0, t1, t0, hull.water]
 }
 
@@ -46,7 +46,7 @@ fn enter_bytes(entry: Entry) -> [u8; 20]
         pressure,
         ..
     } = entry;
-    let command = Command::Enter as u8;
+    let command = u8::from(Command::Enter);
     [
         command, m1, m0, kind, place, n1, n0, f1, f0, s1, s0, l1, l0, pressure, z1, z0, t1, t0, a1,
         a0,
@@ -58,7 +58,7 @@ fn lay_bytes(mark: u16, size: u16) -> [u8; 5]
 {
     let [m1, m0] = mark.to_be_bytes();
     let [s1, s0] = size.to_be_bytes();
-    [Command::Lay as u8, m1, m0, s1, s0]
+    [u8::from(Command::Lay), m1, m0, s1, s0]
 }
 
 // Goes along bytes that are written front to back. The place stands beside the whole output: of a part that is lent on, the proof knows nothing afterwards.
@@ -100,7 +100,7 @@ fn put_record(out: &mut [u8], hull: Hull, lines: &[Line])
     for line in lines {
         cursor.put_line(line);
     }
-    cursor.put(&[Command::End as u8]);
+    cursor.put(&[u8::from(Command::End)]);
 }
 
 // How many bytes a line takes.
@@ -119,6 +119,7 @@ fn record_length(lines: &[Line]) -> usize
     11 + lines.iter().map(line_length).sum::<usize>()
 }
 
+// The place stands beside the whole buffer, since the promise is of the whole: no byte before the place or behind the record is touched.
 /// Writes a sheet as a record, from a place in the buffer on and nowhere else, and answers the count of bytes. Refused, it writes none.
 pub fn write_to(sheet: &Sheet<'_>, out: &mut [u8], place: usize) -> Result<usize, Refusal>
     ensures { Wrote (contents sheet.now) out.old place result out.new }

@@ -2,7 +2,6 @@ use Rattle.std.proofs.Common.{◌++◌, [], ◌∷◌, length, take, sym, ap, �
 use Rattle.std.proofs.lemmas.List.{take_more, take_all, flat_map_more}
 use Rattle.std.proofs.lemmas.List.Folds.{length-flat_map-take}
 use Rattle.design.specs.Lines.{no_line}
-use Rattle.record.specs.Spelling.{end}
 use Rattle.writer.specs.Putting.{Puts}
 use Rattle.writer.specs.Writing.{line_bytes, lines_bytes, over}
 use Rattle.writer.proofs.Puts.{both}
@@ -30,4 +29,4 @@ returns c =
     let ls = c.args.lines.now in
     let all = take_all c.loop-line.line-index ls c.loop-line-test.false in
     search rules ∙ (both (both c.put.ensures c.loop-line.invariant) c.put-2.ensures).out
-    ∙ ap (over c.args.out.now 0) ((λ i. (c.hull_bytes.ensures i ++ lines_bytes (all i)) ++ (end ∷ [])) ∙ sym (record_is c.args.hull ls))
+    ∙ ap (over c.args.out.now 0) ((λ i. (c.hull_bytes.ensures i ++ lines_bytes (all i)) ++ (c.from.ensures i ∷ [])) ∙ sym (record_is c.args.hull ls))
