@@ -1,6 +1,6 @@
 -- The line of a mark, and its place.
 use Rattle.std.specs.List.{list_any}
-use Rattle.std.proofs.Common.{◌≡◌, ℕ, true, false, cond, eqb, List, [], ◌∷◌, get_or, is_some, Some, None, Option, sym, refl, ap, ◌∙◌, one-add, arith}
+use Rattle.std.proofs.Common.{◌≡◌, ℕ, eqb, List, [], ◌∷◌, get_or, is_some, Some, None, Option, sym, refl, ap, ◌∙◌, one-add, arith}
 use Rattle.register.specs.Keys.{place_of, further}
 use Rattle.register.proofs.Found as found
 use Rattle.design.specs.declared.line.Line.{Line}
@@ -17,9 +17,7 @@ at_further (Some p) l ls = ap (λ k. Some (get_or (l ∷ ls) k no_line)) (sym (o
 -- the line of a mark stands at the place of the mark
 pub line_is : (m : ℕ) (ls : List Line) → line_of m ls ≡ at_place (place_of mark_of m ls) ls
 line_is m [] = refl
-line_is m (l ∷ ls) =
-    elim (eqb (mark_of l) m) as (λ b. cond b (Some l) (line_of m ls) ≡ at_place (cond b (Some 0) (further 1 (place_of mark_of m ls))) (l ∷ ls))
-    [ true ↦ refl | false ↦ line_is m ls ∙ at_further (place_of mark_of m ls) l ls ]
+line_is m (l ∷ ls) = grind (arith, line_is m ls, at_further (place_of mark_of m ls) l ls)
 
 -- a mark is there where a line has it
 pub there_any : (m : ℕ) (ls : List Line) → there_in m ls ≡ list_any (λ l. eqb (mark_of l) m) ls

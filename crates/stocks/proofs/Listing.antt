@@ -1,7 +1,8 @@
 -- Rows in a list: the first at or above a floor, and a row added.
-use Rattle.std.proofs.Common.{◌≡◌, ℕ, ◌<◌, ◌≤◌, Bool, true, false, cond, eqb, ltb, leb, List, [], ◌∷◌, Some, None, Option, sym, refl, subst, ⊎_elim, arith}
+use Rattle.std.proofs.Common.{◌≡◌, ℕ, ◌<◌, ◌≤◌, Bool, true, false, cond, ltb, leb, List, [], ◌∷◌, Some, None, Option, sym, refl, subst, arith}
 use Rattle.std.specs.Option.{option_map}
-use Rattle.std.proofs.lemmas.Bool.{and_parts, or_cases, or_left, or_right, both_ways, eqb-true, eq-eqb, leb-true, leb-false, le-leb, cond_both}
+use Rattle.std.proofs.lemmas.Bool.{and_parts, both_ways, leb-true, leb-false, le-leb, cond_both}
+use Rattle.std.proofs.lemmas.Bool.Decides.{nat_tests}
 use Rattle.register.specs.Keys.{first_from, placed, climbs, each}
 use Rattle.register.proofs.Each.{each_placed}
 use Rattle.register.proofs.Found.{no_place}
@@ -12,13 +13,8 @@ use Rattle.stocks.specs.RowLists.{size_of, sized, is_small, size_above}
 
 -- a first row below the floor is passed over
 passed : (floor : ℕ) (row : Row) (rows : List Row) (o : Option ℕ) → row.size < floor → AtLeast (sized rows) floor o → AtLeast (sized (row ∷ rows)) floor o
-passed floor row rows None below h =
-    λ n above e. ⊎_elim (λ here. let is = eqb-true row.size n here in absurd (omega arith)) (λ later. h n above later) (or_cases (eqb row.size n) (sized rows n) e)
-passed floor row rows (Some v) below h = (
-  or_right (eqb row.size v) (sized rows v) h.0,
-  h.1,
-  (λ n above e. ⊎_elim (λ here. let is = eqb-true row.size n here in absurd (omega arith)) (λ later. h.2 n above later) (or_cases (eqb row.size n) (sized rows n) e)),
-)
+passed floor row rows None below h = λ n above e. grind (arith, nat_tests, h n above)
+passed floor row rows (Some v) below h = (grind (arith, h.0), h.1, (λ n above e. grind (arith, nat_tests, h.2 n above)))
 
 -- where sizes climb, the first at or above a floor is the smallest
 first_least : (floor low : ℕ) (rows : List Row) → climbs size_of low rows ≡ true → AtLeast (sized rows) floor (option_map size_of (first_from size_of floor rows))
@@ -26,14 +22,7 @@ first_least floor low [] up = λ n above e. both_ways false refl e
 first_least floor low (row ∷ rows) up =
     let both = and_parts (ltb low row.size) (climbs size_of row.size rows) up in
     cond_both (leb floor row.size) (Some row) (first_from size_of floor rows) (λ o. AtLeast (sized (row ∷ rows)) floor (option_map size_of o))
-    (λ t. (
-      or_left (eqb row.size row.size) (sized rows row.size) (eq-eqb row.size row.size refl),
-      leb-true floor row.size t,
-      (λ n above e. ⊎_elim
-          (λ here. let is = eqb-true row.size n here in omega arith)
-          (λ later. let more = size_above row.size n rows both.1 later in omega arith)
-          (or_cases (eqb row.size n) (sized rows n) e)),
-    ))
+    (λ t. (grind (arith, nat_tests), leb-true floor row.size t, (λ n above e. grind (arith, nat_tests, size_above row.size n rows both.1))))
     (λ f. passed floor row rows (option_map size_of (first_from size_of floor rows)) (leb-false floor row.size f) (first_least floor row.size rows both.1))
 
 pub least_found : (floor : ℕ) (rows : List Row) (o : Option Row) → climbs size_of 0 rows ≡ true → o ≡ first_from size_of floor rows → AtLeast (sized rows) floor (option_map size_of o)
