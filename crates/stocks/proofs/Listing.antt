@@ -1,7 +1,7 @@
 -- Rows in a list: the first at or above a floor, and a row added.
-use Rattle.std.proofs.Common.{◌≡◌, ℕ, ◌<◌, ◌≤◌, Bool, true, false, cond, ltb, leb, List, [], ◌∷◌, Some, None, Option, sym, refl, subst, arith}
+use Rattle.std.proofs.Common.{◌≡◌, ℕ, ◌<◌, ◌≤◌, Bool, true, false, cond, ltb, leb, List, [], ◌∷◌, Some, None, Option, sym, subst, arith}
 use Rattle.std.specs.Option.{option_map}
-use Rattle.std.proofs.lemmas.Bool.{and_parts, both_ways, leb-true, leb-false, le-leb, cond_both}
+use Rattle.std.proofs.lemmas.Bool.{and_parts, leb-true, leb-false, le-leb, cond_both}
 use Rattle.std.proofs.lemmas.Bool.Decides.{nat_tests}
 use Rattle.register.specs.Keys.{first_from, placed, climbs, each}
 use Rattle.register.proofs.Each.{each_placed}
@@ -18,7 +18,7 @@ passed floor row rows (Some v) below h = (grind (arith, h.0), h.1, (λ n above e
 
 -- where sizes climb, the first at or above a floor is the smallest
 first_least : (floor low : ℕ) (rows : List Row) → climbs size_of low rows ≡ true → AtLeast (sized rows) floor (option_map size_of (first_from size_of floor rows))
-first_least floor low [] up = λ n above e. both_ways false refl e
+first_least floor low [] up = λ n above e. cc
 first_least floor low (row ∷ rows) up =
     let both = and_parts (ltb low row.size) (climbs size_of row.size rows) up in
     cond_both (leb floor row.size) (Some row) (first_from size_of floor rows) (λ o. AtLeast (sized (row ∷ rows)) floor (option_map size_of o))
