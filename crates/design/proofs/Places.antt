@@ -1,7 +1,8 @@
 -- The line of a mark, and its place.
 use Rattle.std.specs.List.{list_any}
-use Rattle.std.proofs.Common.{◌≡◌, ℕ, ◌||◌, true, false, cond, eqb, List, [], ◌∷◌, get_or, is_some, Some, None, Option, sym, refl, ap, ◌∙◌, one-add, arith}
+use Rattle.std.proofs.Common.{◌≡◌, ℕ, eqb, List, [], ◌∷◌, get_or, is_some, Some, None, Option, sym, refl, ap, ◌∙◌, one-add, arith}
 use Rattle.register.specs.Keys.{place_of, further}
+use Rattle.register.proofs.Found as found
 use Rattle.design.specs.declared.line.Line.{Line}
 use Rattle.design.specs.Lines.{no_line, mark_of, line_of, there_in}
 
@@ -16,26 +17,15 @@ at_further (Some p) l ls = ap (λ k. Some (get_or (l ∷ ls) k no_line)) (sym (o
 -- the line of a mark stands at the place of the mark
 pub line_is : (m : ℕ) (ls : List Line) → line_of m ls ≡ at_place (place_of mark_of m ls) ls
 line_is m [] = refl
-line_is m (l ∷ ls) =
-    elim (eqb (mark_of l) m) as (λ b. cond b (Some l) (line_of m ls) ≡ at_place (cond b (Some 0) (further 1 (place_of mark_of m ls))) (l ∷ ls))
-    [ true ↦ refl | false ↦ line_is m ls ∙ at_further (place_of mark_of m ls) l ls ]
-
-at_there : (o : Option ℕ) (ls : List Line) → is_some (at_place o ls) ≡ is_some o
-at_there None ls = refl
-at_there (Some p) ls = refl
-
-pub there_is : (m : ℕ) (ls : List Line) → there_in m ls ≡ is_some (place_of mark_of m ls)
-there_is m ls = ap is_some (line_is m ls) ∙ at_there (place_of mark_of m ls) ls
-
-at_none : (o : Option ℕ) (ls : List Line) → at_place o ls ≡ None → o ≡ None
-at_none None ls e = refl
-at_none (Some p) ls e = let z : ◌≡◌ {A = ℕ} 0 1 = cc in absurd (omega arith)
-
-pub no_place : (m : ℕ) (ls : List Line) → line_of m ls ≡ None → place_of mark_of m ls ≡ None
-no_place m ls e = at_none (place_of mark_of m ls) ls (sym (line_is m ls) ∙ e)
+line_is m (l ∷ ls) = grind (arith, line_is m ls, at_further (place_of mark_of m ls) l ls)
 
 -- a mark is there where a line has it
 pub there_any : (m : ℕ) (ls : List Line) → there_in m ls ≡ list_any (λ l. eqb (mark_of l) m) ls
 there_any m [] = refl
-there_any m (l ∷ ls) =
-    elim (eqb (mark_of l) m) as (λ b. is_some (cond b (Some l) (line_of m ls)) ≡ (b || list_any (λ l. eqb (mark_of l) m) ls)) [ true ↦ refl | false ↦ there_any m ls ]
+there_any m (l ∷ ls) = grind (arith, there_any m ls)
+
+pub there_is : (m : ℕ) (ls : List Line) → there_in m ls ≡ is_some (place_of mark_of m ls)
+there_is m ls = there_any m ls ∙ sym (found.place_any mark_of m ls)
+
+pub no_place : (m : ℕ) (ls : List Line) → line_of m ls ≡ None → place_of mark_of m ls ≡ None
+no_place m ls e = found.no_place mark_of m ls (sym (there_any m ls) ∙ ap is_some e)

@@ -10,6 +10,8 @@ use terms::stock::Stock;
 
 /// What lines are designed by: a rule book, and for each line the stock that it takes its size from. No question changes it,
 /// which each says for itself, since a trait has no other place for it. So does each function that is lent a basis: a type speaks of one state, and this is of two.
+/// Three of the questions are a book's and stand here again, since whoever designs asks the basis alone: were a basis a book too, it would need a number, and a law
+/// that its setting has the rules that it means as a book.
 pub trait DesignBasis {
     ghost setting: { Self → Setting };
 

@@ -1,10 +1,11 @@
 //! Laid sizes, judged as a design.
-ghost use Rattle.std.specs.Prelude.{◌≡◌, ◌<◌, ◌&&◌, length, find, nat_lt};
+ghost use Rattle.std.specs.Prelude.{◌≡◌, ◌<◌, ◌&&◌, length, find, nat_lt, Ok};
+ghost use Rattle.terms.specs.declared.ground.Ground.TheVariants.{NeighbourMissing, LineUnfit};
 ghost use Rattle.design.specs.Settings.{StillLent};
 ghost use Rattle.design.specs.Jobs.{job_of, Kept};
 ghost use Rattle.design.specs.Lines.{there_in};
 ghost use Rattle.design.specs.Schedules.{touching, laid_sizes};
-ghost use Rattle.design.specs.Verdicts.{missing, names_missing, unfit, ready_hull, Pulled, Failing, Judged, Checks};
+ghost use Rattle.design.specs.Verdicts.{missing, names_missing, unfit, refused_by, ready_hull, Pulled, Failing, Judged, Checks};
 
 use crate::basis::DesignBasis;
 use crate::job::Job;
@@ -45,19 +46,29 @@ fn first_without_neighbour(lines: &[Line]) -> Option<Line>
         .find(|line| has_missing_neighbour(lines, line.entry))
 }
 
+// Refused at the mark of that line, if there is one.
+fn check_neighbours(lines: &[Line]) -> Result<(), Refusal>
+    ensures { result ≡ refused_by NeighbourMissing (find (λ l. names_missing lines.now l.entry) lines.now) (Ok tt) }
+{
+    match first_without_neighbour(lines) {
+        Some(line) => Err(Ground::NeighbourMissing.at(line.entry.mark.into())),
+        None => Ok(()),
+    }
+}
+
 // A question may change the basis, and of a closure that does so the proof knows nothing afterwards: so there are loops here.
 impl<D: DesignBasis> Job<'_, D> {
-    // The first line that does not fit.
-    fn first_unfit(&mut self) -> Option<Line>
-        ensures value { result ≡ find (λ l. unfit (D.setting self.old.basis.now) self.old.hull l.entry) self.old.lines.now }
+    // Refused at the mark of the first line that does not fit.
+    fn check_fits(&mut self) -> Result<(), Refusal>
+        ensures value { result ≡ refused_by LineUnfit (find (λ l. unfit (D.setting self.old.basis.now) self.old.hull l.entry) self.old.lines.now) (Ok tt) }
         ensures kept { Kept D.setting D.lenders self.old self.new }
     {
         for line in self.lines {
             if !self.basis.fits(self.hull, line.entry) {
-                return Some(*line);
+                return Err(Ground::LineUnfit.at(line.entry.mark.into()));
             }
         }
-        None
+        Ok(())
     }
 
     // Whether the line touches another, which obliges it to more than its laid size.
@@ -130,13 +141,9 @@ pub fn ready_hull<D: DesignBasis>(
     ensures kept { StillLent D.setting D.lenders basis.old basis.new }
 {
     let hull = hull.ok_or(Ground::HullMissing.at(0))?;
-    if let Some(line) = first_without_neighbour(lines) {
-        return Err(Ground::NeighbourMissing.at(line.entry.mark.into()));
-    }
+    check_neighbours(lines)?;
     let mut job = Job { basis, hull, lines };
-    if let Some(line) = job.first_unfit() {
-        return Err(Ground::LineUnfit.at(line.entry.mark.into()));
-    }
+    job.check_fits()?;
     Ok(hull)
 }
 

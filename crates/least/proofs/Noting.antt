@@ -1,8 +1,8 @@
 -- Touching lines in pairs, and what it says of a schedule that every pair bears its pull.
-use Rattle.std.proofs.Common.{◌≡◌, ℕ, ◌+◌, ◌<◌, ◌≤◌, true, List, [], ◌∷◌, ◌++◌, length, Some, false, sym, ◌∙◌, ⊎_elim, subst, arith, below_more}
+use Rattle.std.proofs.Common.{◌≡◌, ℕ, ◌+◌, ◌<◌, ◌≤◌, true, List, [], ◌∷◌, ◌++◌, length, Some, false, sym, ⊎_elim, subst, arith, below_more}
 use Rattle.std.specs.List.{Contains}
 use Rattle.std.proofs.lemmas.List.Elements.{All-push, All-contains, Contains-append_left, Contains-push}
-use Rattle.std.proofs.lemmas.Bool.{true≢false, or_cases, or_left, or_right}
+use Rattle.std.proofs.lemmas.Bool.{or_cases, or_left, or_right}
 use Rattle.design.specs.declared.line.Line.{Line}
 use Rattle.design.specs.Schedules.{Job, Least, naming, entered, count, touch}
 use Rattle.least.specs.declared.pairs.Pair.{Pair}
@@ -34,7 +34,7 @@ module _ (ls : List Line) (i k : ℕ) (pairs : List Pair) where
 
   -- line i does not name line k
   pub noted_same : naming (entry_at ls i) (entry_at ls k) ≡ false → NotedTo ls i k pairs → NotedTo ls i (k + 1) pairs
-  noted_same other old = record { each = old.each; rows = old.rows; row = below_more _ _ old.row (λ names. absurd (true≢false (sym names ∙ other))) }
+  noted_same other old = record { each = old.each; rows = old.rows; row = below_more _ _ old.row (λ names. cc) }
 
   -- the lines that line i names are all done
   pub row_done : length ls ≤ k → NotedTo ls i k pairs → NotedTo ls (i + 1) 0 pairs

@@ -18,7 +18,8 @@ mod pairs;
 mod search;
 
 // Basis, hull and lines come one by one, as the caller has them, and the basis is promised to mean the same after: made into a job before, it would be the job
-// of which that is said, and the caller would have to carry it over to the basis.
+// of which that is said, and the caller would have to carry it over to the basis. None stands for too many lines too: a sheet, which alone asks, never has
+// more, so that nobody would read an answer that tells the two apart.
 /// The least lawful schedule of up to 96 lines, in the order of the lines; none where no schedule is lawful, or there are more lines.
 pub fn least_schedule<D: DesignBasis>(
     basis: &mut D,

@@ -31,7 +31,8 @@ fn note_both(i: usize, k: usize, pairs: &mut Pairs)
     pairs.push(Pair { line: k, by: i });
 }
 
-// Adds the pairs of the lines that line i names, both ways.
+// Adds the pairs of the lines that line i names, both ways. That there are at most 96 lines stands in three clauses, here, below and where a search starts: the
+// lines are those of a job, and a check makes a job of however many lines, so that no type of a job's lines can say it.
 fn note_named(lines: &[Line], i: usize, pairs: &mut Pairs)
     requires lines { length lines.now ≤ MOST_LINES }
     requires i { i < length lines.now }

@@ -13,8 +13,9 @@ use design::job::Job;
 use design::line::Line;
 use terms::limits::MOST_LINES;
 
-/// A job, and the sizes of its lines so far. That these are fair once the search has begun stands in the clauses: with a ghost field that says it, a loan of the
-/// job got no proof.
+/// A job, and the sizes of its lines so far, in an array of which only the places of lines count: sizes are written by place, and with a list of its own length
+/// each clause would speak of the items of that list, and map the answer to them. That the sizes are fair once the search has begun stands in the clauses: with a
+/// ghost field that says it, a loan of the job got no proof.
 #[derive(Drop)]
 pub(crate) struct Search<'j, D> {
     pub(crate) job: Job<'j, D>,

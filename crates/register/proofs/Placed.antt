@@ -1,14 +1,14 @@
 -- Where a new element goes.
-use Rattle.std.proofs.Common.{◌≡◌, ℕ, suc, ◌+◌, ◌≤◌, true, false, cond, ltb, List, [], ◌∷◌, length, sym, refl, ap, ◌∙◌, zero-le, one-add, arith}
+use Rattle.std.proofs.Common.{◌≡◌, ℕ, ◌+◌, ◌≤◌, true, false, cond, ltb, List, [], ◌∷◌, length, sym, refl, ap, ◌∙◌, zero-le, one-add, arith}
 use Rattle.std.specs.List.{insert}
-use Rattle.std.proofs.lemmas.Bool.{cond_both}
 use Rattle.std.proofs.lemmas.List.Edits.{length-insert}
+use Rattle.std.proofs.lemmas.Bool.Decides.{nat_tests}
 use Rattle.register.specs.Keys.{placed, rank}
 
 module _ {X : Type 0} (key : X → ℕ) where
   pub rank_le : (k : ℕ) (xs : List X) → rank key k xs ≤ length xs
   rank_le k [] = zero-le
-  rank_le k (x ∷ xs) = cond_both (ltb k (key x)) 0 (1 + rank key k xs) (λ n. n ≤ suc (length xs)) (λ _. zero-le) (λ _. omega (arith, rank_le k xs))
+  rank_le k (x ∷ xs) = grind (arith, nat_tests, rank_le k xs)
 
   -- e goes to the place that its rank says
   pub placed_is : (e : X) (xs : List X) → placed key e xs ≡ insert xs (rank key (key e) xs) e

@@ -1,16 +1,10 @@
 -- What stands in the first places of a memory, and what in the others.
-use Rattle.std.proofs.Common.{◌≡◌, ℕ, zero, suc, ◌+◌, ◌-◌, ◌<◌, ◌≤◌, List, [], ◌∷◌, ◌++◌, length, take, drop, set, replicate, sym, refl, ap, ◌∙◌, arith}
+use Rattle.std.proofs.Common.{◌≡◌, ℕ, suc, ◌+◌, ◌-◌, ◌<◌, ◌≤◌, List, [], ◌∷◌, ◌++◌, length, take, drop, replicate, sym, ap, ◌∙◌, arith}
 use Rattle.std.specs.List.{remove}
 use Rattle.std.proofs.lemmas.List.{append_assoc, drop-drop, drop-replicate, drop_at, length-append, length-drop, length-take-le}
 use Rattle.std.proofs.lemmas.List.Edits.{length-remove}
 
 module _ {X : Type 0} where
-  pub take_set : (n p : ℕ) (s : List X) (e : X) → take n (set s p e) ≡ set (take n s) p e
-  take_set zero p s e = refl
-  take_set (suc n) p [] e = refl
-  take_set (suc n) zero (x ∷ s) e = refl
-  take_set (suc n) (suc p) (x ∷ s) e = ap (λ y. x ∷ y) (take_set n p s e)
-
   module _ (v : X) (n : ℕ) (s : List X) (rest : drop n s ≡ replicate (length s - n) v) where
     -- one more element
     pub one_less : drop (n + 1) s ≡ replicate (length s - (n + 1)) v

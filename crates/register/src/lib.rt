@@ -17,7 +17,7 @@ pub trait Keyed: Copy + Default {
     ghost default_is_vacant: { (e : Self) → Self.is_default e → e ≡ vacant };
 }
 
-/// A change that can be made of every element. A trait, since a closure would leave it to callers that it may be called.
+/// A change that can be made of every element. A trait, since of a closure a public call would require that it may be called, which asks more of callers.
 pub trait Change<E> {
     ghost gives: { Self → ℕ → E → E };
 
@@ -30,16 +30,16 @@ pub trait Change<E> {
 #[derive(Clone, Copy, PartialEq, Eq, Debug)]
 pub struct Full;
 
-// A loop, since `fill` asks that no clone fails, which no bound says.
+// Not by `fill`, which asks that no clone fails: no bound says so.
 fn clear<E: Keyed>(places: &mut [E])
     ensures { places.new ≡ replicate (length places.old) E.Keyed.vacant }
 {
-    for place in places.iter_mut() {
-        *place = E::default();
-    }
+    let vacant = E::default();
+    places.fill_with(|| vacant);
 }
 
-// How many elements stand before the first with a key above this one.
+// How many elements stand before the first with a key above this one. From the front: a binary search finds it only where keys rise, and that they do is
+// known to what holds a register and not to it, which takes any key in `replace` and from a change.
 fn rank_of<E: Keyed>(held: &[E], key: u16) -> usize
     ensures value { result ≡ rank E.Keyed.key key held.now }
     ensures bound { result ≤ length held.now }
@@ -69,7 +69,7 @@ fn take_out<E: Keyed>(places: &mut [E], place: usize)
     places[place..].rotate_left(1);
 }
 
-// Puts what a change gives in the place of each element.
+// Puts what a change gives in the place of each element. A loop, since after `for_each` the proof knows nothing of what `iter_mut` lent.
 fn change_all<E: Copy, C: Change<E>>(elements: &mut [E], change: &C)
     ensures { elements.new ≡ each_changed (C.gives change.now) elements.old }
 {
@@ -116,6 +116,7 @@ impl<'a, E: Keyed> Register<'a, E> {
         self.count == self.slots.len()
     }
 
+    // From the front, since the register does not know that keys rise.
     /// The place of the first element with the key.
     pub fn place_of(&self, key: u16) -> Option<usize>
         ensures { result ≡ place_of E.Keyed.key key (elements_of self.now) }
@@ -123,6 +124,7 @@ impl<'a, E: Keyed> Register<'a, E> {
         self.elements().iter().position(|e| e.key_of() == key)
     }
 
+    // From the front, since the register does not know that keys rise.
     /// The first element with a key at or above this one.
     pub fn element_from(&self, key: u16) -> Option<E>
         ensures { result ≡ first_from E.Keyed.key key (elements_of self.now) }

@@ -1,7 +1,7 @@
 -- The line that a mark names.
-use Rattle.std.proofs.Common.{◌≡◌, ℕ, true, List, Some, None, get_or, sym, ap, ◌∙◌}
+use Rattle.std.proofs.Common.{◌≡◌, ℕ, true, List, Some, None, get_or, refl, sym, ap, ◌∙◌}
+use Rattle.std.proofs.lemmas.List.Recursion.{and_at}
 use Rattle.register.specs.Keys.{place_of, each}
-use Rattle.register.proofs.Each.{each_at}
 use Rattle.register.proofs.Orders.{found}
 use Rattle.design.specs.declared.line.Line.{Line}
 use Rattle.design.specs.Lines.{no_line, mark_of, line_of, line_kept}
@@ -18,4 +18,4 @@ module _ (m : ℕ) (ls : List Line) where
       record { inside = f.within; named = f.named no_line; line = line_is m ls ∙ ap (λ o. at_place o ls) e; change = λ g. sym (f.put g no_line); strike = sym f.taken }
 
   pub kept_at : (p : ℕ) → place_of mark_of m ls ≡ Some p → each line_kept ls ≡ true → line_kept (get_or ls p no_line) ≡ true
-  kept_at p e kept = each_at line_kept ls p no_line (found mark_of m ls p e).within kept
+  kept_at p e kept = and_at (each line_kept) line_kept refl (λ _ _. refl) ls p no_line (found mark_of m ls p e).within kept

@@ -1,56 +1,28 @@
--- Rows in a list: the place of a size, the first at or above a floor, and a row added.
-use Rattle.std.proofs.Common.{◌≡◌, ℕ, ◌<◌, ◌≤◌, Bool, true, false, cond, ◌||◌, eqb, ltb, leb, List, [], ◌∷◌, is_some, Some, None, Option, sym, refl, ◌∙◌, subst, ⊎_elim, arith}
+-- Rows in a list: the first at or above a floor, and a row added.
+use Rattle.std.proofs.Common.{◌≡◌, ℕ, ◌<◌, ◌≤◌, Bool, true, false, cond, ltb, leb, List, [], ◌∷◌, Some, None, Option, sym, subst, arith}
 use Rattle.std.specs.Option.{option_map}
-use Rattle.std.proofs.lemmas.Bool.{and_parts, or_cases, or_left, or_right, both_ways, eqb-true, eq-eqb, leb-true, leb-false, le-leb, cond_both}
-use Rattle.register.specs.Keys.{place_of, further, first_from, placed, climbs, each}
+use Rattle.std.proofs.lemmas.Bool.{and_parts, leb-true, leb-false, le-leb, cond_both}
+use Rattle.std.proofs.lemmas.Bool.Decides.{nat_tests}
+use Rattle.register.specs.Keys.{first_from, placed, climbs, each}
 use Rattle.register.proofs.Each.{each_placed}
+use Rattle.register.proofs.Found.{no_place}
 use Rattle.register.proofs.Orders.{climbs-placed}
 use Rattle.terms.specs.Stocks.{AtLeast}
 use Rattle.stocks.specs.declared.row.Row.{Row}
 use Rattle.stocks.specs.RowLists.{size_of, sized, is_small, size_above}
 
-further_is : (o : Option ℕ) → is_some (further 1 o) ≡ is_some o
-further_is None = refl
-further_is (Some p) = refl
-
--- a size has a place exactly when a row has it
-pub place_tells : (n : ℕ) (rows : List Row) → is_some (place_of size_of n rows) ≡ sized rows n
-place_tells n [] = refl
-place_tells n (row ∷ rows) =
-    elim (eqb row.size n) as (λ b. is_some (cond b (Some 0) (further 1 (place_of size_of n rows))) ≡ (b || sized rows n))
-    [ true ↦ refl | false ↦ further_is (place_of size_of n rows) ∙ place_tells n rows ]
-
-is_none : (o : Option ℕ) → is_some o ≡ false → o ≡ None
-is_none None e = refl
-is_none (Some p) e = absurd (both_ways true e refl)
-
-pub no_place : (n : ℕ) (rows : List Row) → sized rows n ≡ false → place_of size_of n rows ≡ None
-no_place n rows e = is_none (place_of size_of n rows) (place_tells n rows ∙ e)
-
 -- a first row below the floor is passed over
 passed : (floor : ℕ) (row : Row) (rows : List Row) (o : Option ℕ) → row.size < floor → AtLeast (sized rows) floor o → AtLeast (sized (row ∷ rows)) floor o
-passed floor row rows None below h =
-    λ n above e. ⊎_elim (λ here. let is = eqb-true row.size n here in absurd (omega arith)) (λ later. h n above later) (or_cases (eqb row.size n) (sized rows n) e)
-passed floor row rows (Some v) below h = (
-  or_right (eqb row.size v) (sized rows v) h.0,
-  h.1,
-  (λ n above e. ⊎_elim (λ here. let is = eqb-true row.size n here in absurd (omega arith)) (λ later. h.2 n above later) (or_cases (eqb row.size n) (sized rows n) e)),
-)
+passed floor row rows None below h = λ n above e. grind (arith, nat_tests, h n above)
+passed floor row rows (Some v) below h = (grind (arith, h.0), h.1, (λ n above e. grind (arith, nat_tests, h.2 n above)))
 
 -- where sizes climb, the first at or above a floor is the smallest
 first_least : (floor low : ℕ) (rows : List Row) → climbs size_of low rows ≡ true → AtLeast (sized rows) floor (option_map size_of (first_from size_of floor rows))
-first_least floor low [] up = λ n above e. both_ways false refl e
+first_least floor low [] up = λ n above e. cc
 first_least floor low (row ∷ rows) up =
     let both = and_parts (ltb low row.size) (climbs size_of row.size rows) up in
     cond_both (leb floor row.size) (Some row) (first_from size_of floor rows) (λ o. AtLeast (sized (row ∷ rows)) floor (option_map size_of o))
-    (λ t. (
-      or_left (eqb row.size row.size) (sized rows row.size) (eq-eqb row.size row.size refl),
-      leb-true floor row.size t,
-      (λ n above e. ⊎_elim
-          (λ here. let is = eqb-true row.size n here in omega arith)
-          (λ later. let more = size_above row.size n rows both.1 later in omega arith)
-          (or_cases (eqb row.size n) (sized rows n) e)),
-    ))
+    (λ t. (grind (arith, nat_tests), leb-true floor row.size t, (λ n above e. grind (arith, nat_tests, size_above row.size n rows both.1))))
     (λ f. passed floor row rows (option_map size_of (first_from size_of floor rows)) (leb-false floor row.size f) (first_least floor row.size rows both.1))
 
 pub least_found : (floor : ℕ) (rows : List Row) (o : Option Row) → climbs size_of 0 rows ≡ true → o ≡ first_from size_of floor rows → AtLeast (sized rows) floor (option_map size_of o)
@@ -59,7 +31,7 @@ least_found floor rows o up e = subst (λ q. AtLeast (sized rows) floor (option_
 -- what one more row leaves where its size is new, and in range
 module _ (row : Row) (rows : List Row) (above : 0 < row.size) (le : row.size ≤ 60000) (new : sized rows row.size ≡ false) (b : Bool) where
   pub still_climbing : climbs size_of 0 rows ≡ true → climbs size_of 0 (cond b (placed size_of row rows) rows) ≡ true
-  still_climbing up = cond_both b (placed size_of row rows) rows (λ l. climbs size_of 0 l ≡ true) (λ _. climbs-placed size_of row 0 rows up above (no_place row.size rows new)) (λ _. up)
+  still_climbing up = cond_both b (placed size_of row rows) rows (λ l. climbs size_of 0 l ≡ true) (λ _. climbs-placed size_of row 0 rows up above (no_place size_of row.size rows new)) (λ _. up)
 
   pub still_small : each is_small rows ≡ true → each is_small (cond b (placed size_of row rows) rows) ≡ true
   still_small small = cond_both b (placed size_of row rows) rows (λ l. each is_small l ≡ true) (λ _. each_placed is_small size_of row rows (le-leb row.size 60000 le) small) (λ _. small)

@@ -1,7 +1,7 @@
 -- Sizes by the number of steps from the first.
 use Rattle.std.proofs.Common.{◌≡◌, ℕ, ◌+◌, ◌-◌, ◌*◌, ◌/◌, ◌%◌, ◌<◌, ◌≤◌, min, false, eqb, ltb, Some, None, sym, refl, ap, ◌∙◌, subst, ⊎_elim, add-mul, arith}
 use Rattle.std.proofs.lemmas.Nat.{mul-le, div-add-mod', mod_below, div-mul-add, mod-mul-add}
-use Rattle.std.proofs.lemmas.Bool.{and_parts, and_from, both_ways, cases_lt, eqb-true, eq-eqb, ltb-true, lt-ltb}
+use Rattle.std.proofs.lemmas.Bool.{and_parts, and_from, cases_lt, eqb-true, eq-eqb, ltb-true, lt-ltb}
 use Rattle.std.proofs.lemmas.Bool.Decides.{same_from_decides}
 use Rattle.terms.specs.Stocks.{AtLeast}
 use Rattle.stocks.specs.BuildUps.{built, built_decides, whole_steps, steps_up}
@@ -10,7 +10,7 @@ use Rattle.stocks.specs.BuildUps.{built, built_decides, whole_steps, steps_up}
 pub below_first : (first step count n : ℕ) → n < first → false ≡ built first step count n
 below_first first step count n below =
     same_from_decides false (built first step count n)
-    ((λ e. absurd (both_ways false refl e)), (λ size. absurd (let is = size.2 in omega arith)))
+    ((λ e. cc), (λ size. absurd (let is = size.2 in omega arith)))
     (built_decides first step count n)
 
 -- from the first on, division tells the sizes

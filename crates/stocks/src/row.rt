@@ -5,7 +5,7 @@ ghost use Rattle.stocks.specs.RowLists.{no_row, size_of};
 use register::Keyed;
 
 /// A size in the store, and the number of its article.
-#[derive(Clone, Copy, Default)]
+#[derive(Clone, Copy, Default, PartialEq, Eq, Debug)]
 pub struct Row {
     pub size: u16,
     pub article: u32,

@@ -52,7 +52,7 @@ impl<'a> Rows<'a> {
         ensures rows { rows_of self.new ≡ (if is_ok result then placed size_of row (rows_of self.old) else rows_of self.old) }
         ensures room { room_of self.new ≡ room_of self.old }
     {
-        if row.size == 0 || row.size > LARGEST_SIZE {
+        if !(1..=LARGEST_SIZE).contains(&row.size) {
             return Err(Ground::RowSizeOutOfRange.at(0));
         }
         if self.has_size(row.size) {

@@ -1,5 +1,4 @@
-use Rattle.std.proofs.Common.{rules, eqb, ◌∙◌}
-use borrow.Author.Tests.{tests}
+use Rattle.std.proofs.Common.{rules, tests, eqb, ◌∙◌}
 use Rattle.std.proofs.lemmas.Iterator.{YieldsList-from_slice}
 use Rattle.std.proofs.lemmas.Iterator.Search.{position_from_yields_List}
 use Rattle.register.specs.Registers.{elements_of}

@@ -1,7 +1,7 @@
-use Rattle.std.proofs.Common.{ap, ◌∙◌, arith}
+use Rattle.std.proofs.Common.{refl, ap, ◌∙◌, arith}
 use Rattle.std.proofs.lemmas.List.{get_or_default}
+use Rattle.std.proofs.lemmas.List.Recursion.{and_set}
 use Rattle.register.specs.Keys.{climbs, each}
-use Rattle.register.proofs.Each.{each_set}
 use Rattle.register.proofs.Orders.{climbs-set}
 use Rattle.design.specs.Lines.{no_line, mark_of, line_kept}
 use Rattle.sheet.specs.Sheets.{lines_of}
@@ -17,5 +17,5 @@ invariant_of-self c =
       small = omega (arith, e.places.room, s.small);
       climbing = ap (climbs mark_of 0) e.elements ∙ climbs-set mark_of 0 ls c.args.place c.args.line same ∙ s.climbing;
       proper = s.proper;
-      limits = ap (each line_kept) e.elements ∙ each_set line_kept ls c.args.place c.args.line c.requires.kept s.limits;
+      limits = ap (each line_kept) e.elements ∙ and_set (each line_kept) line_kept refl (λ _ _. refl) ls c.args.place c.args.line c.requires.kept s.limits;
     }

@@ -1,4 +1,5 @@
-use Rattle.std.proofs.Common.{is_ok, ap, sym, ◌∙◌, arith}
+use Rattle.std.proofs.Common.{◌<◌, ◌≤◌, is_ok, ap, sym, ◌∙◌, arith}
+use Rattle.std.proofs.lemmas.Bool.Decides.{nat_tests}
 use Rattle.register.specs.Keys.{climbs, each}
 use Rattle.stocks.specs.RowLists.{size_of, is_small}
 use Rattle.stocks.specs.RowStocks.{rows_of}
@@ -11,7 +12,8 @@ invariant_of-self c =
     let row = c.args.row in
     let ok = is_ok c.insert.result in
     let new = sym c.has_size.ensures ∙ c.if-has_size.false in
+    let range : (0 < row.size) × (row.size ≤ 60000) = grind (arith, nat_tests) in
     record {
-      climbing = ap (climbs size_of 0) c.insert.ensures.elements ∙ still_climbing row (rows_of s) (omega arith) (omega arith) new ok s.climbing;
-      within = ap (each is_small) c.insert.ensures.elements ∙ still_small row (rows_of s) (omega arith) (omega arith) new ok s.within;
+      climbing = ap (climbs size_of 0) c.insert.ensures.elements ∙ still_climbing row (rows_of s) range.0 range.1 new ok s.climbing;
+      within = ap (each is_small) c.insert.ensures.elements ∙ still_small row (rows_of s) range.0 range.1 new ok s.within;
     }

@@ -1,7 +1,7 @@
-use Rattle.std.proofs.Common.{◌≡◌, ◌<◌, ◌≤◌, length, get_or, ap, ◌∙◌, arith, rules}
+use Rattle.std.proofs.Common.{◌≡◌, ◌<◌, ◌≤◌, length, get_or, refl, ap, ◌∙◌, arith, rules}
 use Rattle.std.proofs.lemmas.List.{get_or_default}
+use Rattle.std.proofs.lemmas.List.Recursion.{and_at, and_set}
 use Rattle.register.specs.Keys.{climbs, each}
-use Rattle.register.proofs.Each.{each_set, each_at}
 use Rattle.register.proofs.Orders.{climbs-set}
 use Rattle.design.specs.Lines.{no_line, mark_of, line_kept, laid_as}
 use Rattle.sheet.specs.Sheets.{lines_of}
@@ -29,12 +29,12 @@ invariant_of-self c =
     let is = line_is here in
     let h = inside here in
     let line = laid_as c.args.size c.in-Some.line in
-    let kept = ap line_kept is ∙ each_at line_kept ls c.args.place no_line h s.limits in
+    let kept = ap line_kept is ∙ and_at (each line_kept) line_kept refl (λ _ _. refl) ls c.args.place no_line h s.limits in
     record {
       small = omega (arith, e.places.room, s.small);
       climbing = ap (climbs mark_of 0) e.elements ∙ climbs-set mark_of 0 ls c.args.place line (ap mark_of (is ∙ get_or_default ls c.args.place no_line line h)) ∙ s.climbing;
       proper = s.proper;
-      limits = ap (each line_kept) e.elements ∙ each_set line_kept ls c.args.place line (still_kept c.in-Some.line c.args.size kept c.if-size-le-LARGEST_SIZE.true) s.limits;
+      limits = ap (each line_kept) e.elements ∙ and_set (each line_kept) line_kept refl (λ _ _. refl) ls c.args.place line (still_kept c.in-Some.line c.args.size kept c.if-size-le-LARGEST_SIZE.true) s.limits;
     }
 
 pub returns-then-size-le-LARGEST_SIZE-clause-back : goal.returns-then-size-le-LARGEST_SIZE-clause-back

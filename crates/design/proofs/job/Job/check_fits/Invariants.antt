@@ -2,7 +2,7 @@ use Rattle.std.proofs.Common.{◌≡◌, find, drop}
 use Rattle.design.specs.declared.line.Line.{Line}
 use Rattle.design.specs.Jobs.{Kept}
 use Rattle.design.specs.Verdicts.{unfit}
-use Rattle.design.proofs.job.Job.first_unfit.Given as goal
+use Rattle.design.proofs.job.Job.check_fits.Given as goal
 
 abbrev pub invariant-loop-line : goal.invariant-loop-line
 invariant-loop-line g l =
