@@ -8,7 +8,7 @@ use register::Keyed;
 use terms::entry::Entry;
 
 /// One plate or one stiffener, in memory that its owner reads, so that numbers say what is missing: its entered values, its laid size (what is on the drawing already, 0 for nothing) and its scheduled size (0 for none).
-#[derive(Clone, Copy, Default)]
+#[derive(Clone, Copy, PartialEq, Eq, Debug, Default)]
 pub struct Line {
     pub entry: Entry,
     pub laid: u16,

@@ -6,7 +6,8 @@ use crate::entry::Entry;
 use crate::hull::Hull;
 
 /// A rule book. Its answers follow from its meaning, which no question changes, so that a book may keep count of what it
-/// is asked; each question says so for itself, since a trait has no other place for it.
+/// is asked; each question says so for itself, since a trait has no other place for it. Hull and line come one by one, here and in what is asked of a design
+/// basis: many lines have one hull, and a pair of the two would be made anew for each question.
 pub trait RuleBook {
     /// the number by which a user chooses the book
     const NUMBER: u8;
