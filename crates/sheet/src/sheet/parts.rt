@@ -14,22 +14,7 @@ use register::Change;
 use terms::ground::Ground;
 use terms::refusal::Refusal;
 
-// The scheduled sizes hold no longer.
-#[derive(Clone, Copy)]
-struct Unscheduled;
-
-impl Change<Line> for Unscheduled {
-    ghost gives = { λ _ _ l. unscheduled l };
-
-    fn change(&self, _: usize, line: Line) -> Line {
-        Line {
-            scheduled: 0,
-            ..line
-        }
-    }
-}
-
-// Each line gets the size of its place.
+// Each line gets the size of its place, 0 where there is none.
 #[derive(Clone, Copy)]
 struct Scheduled<'s> {
     sizes: &'s [u16],
@@ -84,11 +69,11 @@ impl Sheet<'_> {
         let _ = self.lines.remove(place);
     }
 
-    // The scheduled sizes hold no longer.
+    // The scheduled sizes hold no longer: none is written.
     pub(super) fn unsettle(&mut self)
         ensures { contents self.new ≡ unsettled (contents self.old) }
     {
-        self.lines.change_each(&Unscheduled);
+        self.write(&[]);
         self.settled = false;
     }
 
