@@ -2,6 +2,7 @@
 ghost use Rattle.std.specs.Prelude.{◌≡◌, ◌<◌, true, length, None, is_ok, if◌then◌else◌, slice_index_or, slice_set};
 ghost use Rattle.std.specs.List.{remove};
 ghost use Rattle.register.specs.Keys.{placed};
+ghost use Rattle.register.specs.Registers.{SamePlaces};
 ghost use Rattle.terms.specs.Questions.{first_no, refused_at};
 ghost use Rattle.design.specs.Lines.{no_line, mark_of, line_of, line_kept, unscheduled, scheduled_as};
 ghost use Rattle.design.specs.Contents.{with_lines, unsettled, settled_at};
@@ -46,7 +47,8 @@ impl Sheet<'_> {
         requires place { place < length (lines_of self.old) }
         requires mark { line.entry.mark ≡ mark_of (slice_index_or (lines_of self.old) place no_line) }
         requires kept { line_kept line ≡ true }
-        ensures { contents self.new ≡ with_lines (contents self.old) (slice_set (lines_of self.old) place line) }
+        ensures holds { contents self.new ≡ with_lines (contents self.old) (slice_set (lines_of self.old) place line) }
+        ensures places { SamePlaces self.old.lines self.new.lines }
     {
         let _ = self.lines.replace(place, line);
     }
