@@ -4,7 +4,7 @@ ghost use Rattle.std.specs.List.{remove};
 ghost use Rattle.register.specs.Keys.{placed};
 ghost use Rattle.register.specs.Registers.{SamePlaces};
 ghost use Rattle.terms.specs.Questions.{first_no, refused_at};
-ghost use Rattle.design.specs.Lines.{no_line, mark_of, line_of, line_kept, unscheduled, scheduled_as};
+ghost use Rattle.design.specs.Lines.{no_line, mark_of, line_of, line_kept, scheduled_as};
 ghost use Rattle.design.specs.Contents.{with_lines, unsettled, settled_at};
 ghost use Rattle.least.specs.Least.{listed};
 ghost use Rattle.sheet.specs.Sheets.{contents, lines_of, Found, room_questions};

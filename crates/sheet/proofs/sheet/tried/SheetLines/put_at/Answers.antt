@@ -1,14 +1,17 @@
-use Rattle.std.proofs.Common.{◌≡◌, ◌<◌, ◌≤◌, length, get_or, ap, ◌∙◌, rules}
+use Rattle.std.proofs.Common.{◌≡◌, ◌<◌, ◌≤◌, length, get_or, sym, ap, ◌∙◌, rules}
+use Rattle.std.proofs.lemmas.List.{get_or_past}
 use Rattle.register.proofs.Each.{each_at}
+use Rattle.design.specs.declared.line.Line.{Line}
 use Rattle.design.specs.Lines.{no_line, line_kept}
 use Rattle.sheet.specs.Sheets.{lines_of}
-use Rattle.sheet.proofs.Laying.{sheet-back, none_past, laid_past, still_kept}
+use Rattle.sheet.proofs.Laying.{sheet-back, laid_past, still_kept}
 use Rattle.sheet.proofs.sheet.tried.SheetLines.put_at.Goals as goal
 
 pub returns-in_default-clause-back : goal.returns-in_default-clause-back
 returns-in_default-clause-back c =
-    let past : length (lines_of c.args.self.now) ≤ c.args.place = search rules in
-    λ t again. sheet-back c.args.self.now c.args.self.now t c.args.place c.args.size 0 (laid_past c.args.self.now c.args.place c.args.size past) (none_past (lines_of c.args.self.now) c.args.place past) again
+    let s = c.args.self.now in
+    let past : length (lines_of s) ≤ c.args.place = search rules in
+    λ t again. sheet-back s s t c.args.place c.args.size 0 (laid_past s c.args.place c.args.size past) (sym (ap (λ (l : Line). l.laid) (get_or_past (lines_of s) c.args.place no_line past))) again
 
 pub put-requires-clause-kept : goal.put-requires-clause-kept
 put-requires-clause-kept c =
