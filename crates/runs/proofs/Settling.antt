@@ -45,7 +45,7 @@ module _ (s : Setting) (c after : Contents) where
   settled-by (Err g) r ready (e, _) = record {
     accepted = λ f. absurd (cc);
     refused = λ f. let z : g ≡ none_lawful_at = cc in absurd (ready_other s c.hull c.lines (ready ∙ ap (λ x. Err x) z));
-    for_want = λ h f _. absurd (cc);
+    for_want = λ h f _. cc;
   }
   settled-by (Ok h) (Ok u) ready (sizes, l, e) = record {
     accepted = λ _. (h, ready, written h sizes l e);
