@@ -19,7 +19,7 @@ use Rattle.sheet.specs.declared.call.Call.{Call}
 use Rattle.sheet.specs.declared.call.Call.TheVariants as call
 use Rattle.sheet.specs.Calls.{Answer, answer, changes}
 use Rattle.sheet.specs.Settles.{SettlesOn}
-use Rattle.sheet.proofs.Scheduling.{length_scheduled, scheduled_at}
+use Rattle.sheet.proofs.Scheduling.{map_scheduled, length_scheduled, scheduled_at}
 use Rattle.runs.specs.declared.step.Step.{Step}
 use Rattle.runs.specs.declared.step.Step.TheVariants.{Change, Settle}
 use Rattle.runs.specs.Runs.{Run}
@@ -36,10 +36,6 @@ change-keeps : (s : Setting) (c after : Contents) (x : Call) (r : Answer) → af
 change-keeps s c after x (Ok u) e kept = λ t. absurd (both_ways after.settled (ap (λ (y : Contents). y.settled) e ∙ changes_open c x) t)
 change-keeps s c after x (Err g) e kept = subst (Kept s) (sym e) kept
 
-entries_scheduled : (f : ℕ → ℕ) (ls : List Line) → map as_entered (scheduled_by f ls) ≡ map as_entered ls
-entries_scheduled f [] = refl
-entries_scheduled f (l ∷ ls) = ap (λ y. as_entered l ∷ y) (entries_scheduled (λ i. f (suc i)) ls)
-
 -- the sheet with the schedule written has it as its least
 standing_at : (s : Setting) (c : Contents) (h : Hull) (sizes : Schedule) → ready_hull s c.hull c.lines ≡ Ok h → Least (job s h c.lines) sizes → SettledBy s (settled_at c sizes)
 standing_at s c h sizes ready l =
@@ -54,7 +50,7 @@ standing_at s c h sizes ready l =
     let t = written s c (settled_at c sizes) h sizes l refl in
     record {
       hull = h;
-      ready = ready_same s c.hull c.hull ls ms refl (entries_scheduled sizes ls) ∙ ready;
+      ready = ready_same s c.hull c.hull ls ms refl (map_scheduled as_entered (λ n l. refl) sizes ls) ∙ ready;
       least = least_more s h ls ms alike (sizes_of (settled_at c sizes)) (λ i k. let e = ap (λ (x : Line). x.laid) (at i k) in let a = (t.lawful i k).laid in omega arith) t;
     }
 

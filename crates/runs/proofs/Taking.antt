@@ -1,5 +1,5 @@
 -- What a run puts on a sheet, from the calls alone.
-use Rattle.std.proofs.Common.{◌≡◌, ℕ, suc, ◌<◌, Bool, true, false, cond, not, eqb, ltb, leb, List, [], ◌∷◌, ◌++◌, map, length, get_or, is_ok, Ok, Err, Result, sym, refl, ap, ◌∙◌, subst, arith}
+use Rattle.std.proofs.Common.{◌≡◌, ℕ, ◌<◌, Bool, true, false, cond, not, eqb, ltb, leb, List, [], ◌∷◌, ◌++◌, map, length, get_or, is_ok, Ok, Err, Result, sym, refl, ap, ◌∙◌, subst, arith}
 use Rattle.std.proofs.lemmas.List.{length-map, get_or-map}
 use Rattle.std.proofs.lemmas.Simd.{map-map}
 use Rattle.std.proofs.lemmas.Bool.{both_ways}
@@ -10,7 +10,7 @@ use Rattle.terms.specs.declared.ground.Ground.TheVariants.{MarkZero, MarkTaken, 
 use Rattle.terms.specs.Questions.{◌else◌, first_no, refused_at, value_questions}
 use Rattle.design.specs.declared.line.Line.{Line}
 use Rattle.design.specs.Contents.{Contents, new_sheet, with_lines, unsettled}
-use Rattle.design.specs.Lines.{no_line, mark_of, there_in, entered_as, amended_as, laid_as, unscheduled, scheduled_by}
+use Rattle.design.specs.Lines.{no_line, mark_of, there_in, entered_as, amended_as, laid_as, unscheduled}
 use Rattle.design.specs.Schedules.{job, Lawful}
 use Rattle.design.specs.Settings.{Setting}
 use Rattle.design.specs.Verdicts.{ready_hull}
@@ -18,16 +18,13 @@ use Rattle.sheet.specs.declared.call.Call.{Call}
 use Rattle.sheet.specs.declared.call.Call.TheVariants as call
 use Rattle.sheet.specs.Calls.{Answer, answer, changes, Does}
 use Rattle.sheet.specs.Settles.{SettlesOn}
+use Rattle.sheet.proofs.Scheduling.{map_scheduled}
 use Rattle.runs.specs.declared.step.Step.{Step}
 use Rattle.runs.specs.declared.step.Step.TheVariants.{Change, Settle}
 use Rattle.runs.specs.Runs.{Run}
 use Rattle.runs.specs.Laws.{drawn_by, drawn, SettleAnswer, Answered, AllAnswered, is_settle, settled_last, TakenFromTheCalls}
 use Rattle.runs.proofs.Entries.{as_entered, ready_same, there_same}
 use Rattle.runs.proofs.Alike.{Alike, lawful_less}
-
-bare_scheduled : (f : ℕ → ℕ) (ls : List Line) → map unscheduled (scheduled_by f ls) ≡ map unscheduled ls
-bare_scheduled f [] = refl
-bare_scheduled f (l ∷ ls) = ap (λ y. unscheduled l ∷ y) (bare_scheduled (λ i. f (suc i)) ls)
 
 -- what a call makes of the lines does not depend on scheduled sizes, once they are cleared
 bare_placed : (x : Line) (ls : List Line) → map unscheduled (placed mark_of x (map unscheduled ls)) ≡ map unscheduled (placed mark_of x ls)
@@ -129,7 +126,7 @@ settle_answered s ls c after e (Ok h) (Err g) (d, none, _) =
 
 settle_drawn : (s : Setting) (c after : Contents) (a : Result Hull Refusal) (r : Answer) → SettlesOn s c a r after → unsettled after ≡ unsettled c
 settle_drawn s c after (Err g) r (_, e) = ap unsettled e
-settle_drawn s c after (Ok h) (Ok u) (sizes, _, e) = ap unsettled e ∙ (λ i. record { hull = c.hull; lines = bare_scheduled sizes c.lines i; settled = false; room = c.room })
+settle_drawn s c after (Ok h) (Ok u) (sizes, _, e) = ap unsettled e ∙ (λ i. record { hull = c.hull; lines = map_scheduled unscheduled (λ n l. refl) sizes c.lines i; settled = false; room = c.room })
 settle_drawn s c after (Ok h) (Err g) (_, _, e) = ap unsettled e
 
 settle_flag : (s : Setting) (c after : Contents) (a : Result Hull Refusal) (r : Answer) → SettlesOn s c a r after → after.settled ≡ cond (is_ok r) true c.settled

@@ -13,6 +13,11 @@ each_scheduled f (l ∷ ls) = ap (λ y. scheduled_as (f 0) l ∷ y) (each_schedu
 pub none_scheduled : (ls : List Line) → scheduled_by (λ _. 0) ls ≡ map unscheduled ls
 none_scheduled ls = sym (each_scheduled (λ _. 0) ls) ∙ changed_map unscheduled ls
 
+-- what a line says besides its scheduled size
+pub map_scheduled : (g : Line → Line) → ((n : ℕ) (l : Line) → g (scheduled_as n l) ≡ g l) → (f : ℕ → ℕ) (ls : List Line) → map g (scheduled_by f ls) ≡ map g ls
+map_scheduled g same f [] = refl
+map_scheduled g same f (l ∷ ls) = λ i. same (f 0) l i ∷ map_scheduled g same (λ k. f (suc k)) ls i
+
 module _ (f : ℕ → ℕ) (ls : List Line) where
   pub length_scheduled : length (scheduled_by f ls) ≡ length ls
   length_scheduled = ap length (sym (each_scheduled f ls)) ∙ length-changed (λ i. scheduled_as (f i)) ls
