@@ -1,5 +1,6 @@
 -- What a settle answers and writes.
-use Rattle.std.proofs.Common.{◌≡◌, ℕ, suc, ◌<◌, List, [], ◌∷◌, map, length, get_or, Some, None, Ok, Err, Option, Result, sym, refl, ap, ◌∙◌, subst, arith}
+use Rattle.std.proofs.Common.{◌≡◌, ℕ, ◌<◌, List, map, length, get_or, Some, None, Ok, Err, Option, Result, sym, refl, ap, ◌∙◌, subst, arith}
+use Rattle.std.proofs.lemmas.List.{ext_get_or, length-map, get_or-map}
 use Rattle.terms.specs.declared.ground.Ground.{Ground}
 use Rattle.terms.specs.declared.ground.Ground.TheVariants.{HullMissing, NeighbourMissing, LineUnfit, NoLawfulSchedule}
 use Rattle.terms.specs.declared.hull.Hull.{Hull}
@@ -62,13 +63,11 @@ pub settle_writes_the_least : SettleWritesTheLeast
 settle_writes_the_least s c after r _ does = settled-by s c after (ready_hull s c.hull c.lines) r refl does
 
 entries_at : (ls ms : List Line) → length ms ≡ length ls → ((i : ℕ) → i < length ls → (get_or ms i no_line).entry ≡ (get_or ls i no_line).entry) → map as_entered ms ≡ map as_entered ls
-entries_at [] [] l same = refl
-entries_at [] (m ∷ ms) l same = absurd (omega arith)
-entries_at (x ∷ ls) [] l same = absurd (omega arith)
-entries_at (x ∷ ls) (m ∷ ms) l same =
-    let here : m.entry ≡ x.entry = same 0 (omega arith) in
-    let rest = entries_at ls ms (omega arith) (λ i h. same (suc i) (omega arith)) in
-    λ i. entered_as (here i) ∷ rest i
+entries_at ls ms l same =
+    ext_get_or no_line (map as_entered ms) (map as_entered ls) (length-map ms as_entered ∙ l ∙ sym (length-map ls as_entered))
+    (λ i h.
+    let n = length-map ms as_entered in
+    get_or-map as_entered ms i no_line no_line (omega arith) ∙ ap entered_as (same i (omega arith)) ∙ sym (get_or-map as_entered ls i no_line no_line (omega arith)))
 
 -- what is lawful for the sheet where more is laid is lawful for the other
 lawful_other : (s : Setting) (h : Hull) (c d : Contents) → LaidMore c d → (t : Schedule) → Lawful (job s h d.lines) t → Lawful (job s h c.lines) t

@@ -1,5 +1,5 @@
 -- What a run puts on a sheet, from the calls alone.
-use Rattle.std.proofs.Common.{◌≡◌, ℕ, ◌<◌, Bool, true, false, cond, not, eqb, ltb, leb, List, [], ◌∷◌, ◌++◌, map, length, get_or, is_ok, Ok, Err, Result, sym, refl, ap, ◌∙◌, subst, arith}
+use Rattle.std.proofs.Common.{◌≡◌, ℕ, Bool, true, false, cond, not, eqb, ltb, leb, List, [], ◌∷◌, ◌++◌, map, length, is_ok, Ok, Err, Result, sym, refl, ap, ◌∙◌, subst, arith}
 use Rattle.std.proofs.lemmas.List.{length-map, get_or-map}
 use Rattle.std.proofs.lemmas.Simd.{map-map}
 use Rattle.std.proofs.lemmas.Bool.{both_ways}
@@ -98,14 +98,11 @@ change-drawn c after x r d =
     (ap unsettled d.holds ∙ by_answer c x r ∙ ap F said, said)
 
 -- lines with and without their scheduled sizes have the same lawful schedules
-at_bare : (ls : List Line) (i : ℕ) → i < length ls → get_or (map unscheduled ls) i no_line ≡ unscheduled (get_or ls i no_line)
-at_bare ls i h = get_or-map unscheduled ls i no_line no_line h
-
 alike_bare : (s : Setting) (h : Hull) (ls : List Line) → Alike s h ls (map unscheduled ls)
 alike_bare s h ls = record {
   long = length-map ls unscheduled;
-  entry = λ i k. ap (λ (l : Line). l.entry) (at_bare ls i k);
-  laid = λ i k. let e = ap (λ (l : Line). l.laid) (at_bare ls i k) in omega arith;
+  entry = λ i k. ap (λ (l : Line). l.entry) (get_or-map unscheduled ls i no_line no_line k);
+  laid = λ i k. let e = ap (λ (l : Line). l.laid) (get_or-map unscheduled ls i no_line no_line k) in omega arith;
 }
 
 bare_alike : (s : Setting) (h : Hull) (ls : List Line) → Alike s h (map unscheduled ls) ls
@@ -113,8 +110,8 @@ bare_alike s h ls =
     let long = length-map ls unscheduled in
     record {
       long = sym long;
-      entry = λ i k. sym (ap (λ (l : Line). l.entry) (at_bare ls i (omega arith)));
-      laid = λ i k. let e = ap (λ (l : Line). l.laid) (at_bare ls i (omega arith)) in omega arith;
+      entry = λ i k. sym (ap (λ (l : Line). l.entry) (get_or-map unscheduled ls i no_line no_line (omega arith)));
+      laid = λ i k. let e = ap (λ (l : Line). l.laid) (get_or-map unscheduled ls i no_line no_line (omega arith)) in omega arith;
     }
 
 settle_answered : (s : Setting) (ls : List Line) (c after : Contents) → c.lines ≡ ls → (a : Result Hull Refusal) (r : Answer) → SettlesOn s c a r after → SettleAnswer s (map unscheduled ls) a r
