@@ -1,9 +1,8 @@
 -- Lays, one after the other, at the sizes of the lines as they stood before the first.
-use Rattle.std.proofs.Common.{◌≡◌, ℕ, ◌+◌, ◌<◌, cond, eqb, List, [], ◌∷◌, ◌++◌, length, get_or, take, is_ok, Some, None, Ok, Err, Option, sym, refl, ap, ◌∙◌, subst}
+use Rattle.std.proofs.Common.{◌≡◌, ℕ, ◌+◌, ◌<◌, cond, List, [], ◌∷◌, ◌++◌, length, get_or, take, is_ok, Some, None, Ok, Err, Option, sym, refl, ap, ◌∙◌, subst}
 use Rattle.std.proofs.lemmas.List.{take_more}
-use Rattle.register.specs.Keys.{place_of, further}
+use Rattle.register.specs.Keys.{place_of}
 use Rattle.register.proofs.Orders.{found}
-use Rattle.terms.specs.declared.entry.Entry.{Entry}
 use Rattle.design.specs.declared.line.Line.{Line}
 use Rattle.design.specs.Contents.{Contents}
 use Rattle.design.specs.Lines.{mark_of}
@@ -17,17 +16,9 @@ use Rattle.runs.specs.Runs.{Takes, Run}
 use Rattle.runs.specs.Laws.{size_or_none, size_for, lays, AllAccepted, first_refusal, LaidBack}
 use Rattle.std.specs.Result.{result_and}
 use Rattle.runs.specs.Back.{SizesTo, size_at, LaidTo}
-use Rattle.runs.proofs.Relaying.{Relaid, Back, back_refl, back-laid, laid-back}
+use Rattle.runs.proofs.Entries.{place_same}
+use Rattle.runs.proofs.Relaying.{Relaid, relaid_entries, Back, back_refl, back-laid, laid-back}
 use Rattle.runs.proofs.Running.{run_more}
-
--- the mark of a line stays at its place
-place_same : (m : ℕ) (xs ys : List Line) → Relaid xs ys → place_of mark_of m ys ≡ place_of mark_of m xs
-place_same m [] [] r = refl
-place_same m [] (y ∷ ys) r = absurd r
-place_same m (x ∷ xs) [] r = absurd r
-place_same m (x ∷ xs) (y ∷ ys) r =
-    ap (λ (e : Entry). cond (eqb e.mark m) (Some 0) (further 1 (place_of mark_of m ys))) r.0.entry
-    ∙ ap (λ o. cond (eqb (mark_of x) m) (Some 0) (further 1 o)) (place_same m xs ys r.1)
 
 size-there : (xs : List Line) (sizes : List ℕ) (m : ℕ) (o : Option ℕ) → SizesTo xs (length xs) sizes → place_of mark_of m xs ≡ o → size_at sizes o ≡ size_or_none (at_place o xs)
 size-there xs sizes m None all e = refl
@@ -35,7 +26,7 @@ size-there xs sizes m (Some p) all e = all p (found mark_of m xs p e).within
 
 -- the size that stands at the place of a mark is the one scheduled for it before
 size_is : (xs ys : List Line) (sizes : List ℕ) (m : ℕ) → SizesTo xs (length xs) sizes → Relaid xs ys → size_at sizes (place_of mark_of m ys) ≡ size_for m xs
-size_is xs ys sizes m all r = ap (size_at sizes) (place_same m xs ys r) ∙ size-there xs sizes m (place_of mark_of m xs) all refl ∙ ap size_or_none (sym (line_is m xs))
+size_is xs ys sizes m all r = ap (size_at sizes) (place_same m xs ys (relaid_entries xs ys r)) ∙ size-there xs sizes m (place_of mark_of m xs) all refl ∙ ap size_or_none (sym (line_is m xs))
 
 lays_more : (c : Contents) (ms : List ℕ) (m : ℕ) → lays c (ms ++ m ∷ []) ≡ lays c ms ++ (Change (call.Lay m (size_for m c.lines)) ∷ [])
 lays_more c [] m = refl

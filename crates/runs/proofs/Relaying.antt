@@ -10,7 +10,7 @@ use Rattle.terms.specs.declared.refusal.Refusal.{Refusal}
 use Rattle.terms.specs.Questions.{◌else◌, first_no, refused_at}
 use Rattle.design.specs.declared.line.Line.{Line}
 use Rattle.design.specs.Contents.{Contents, new_sheet, settled_at}
-use Rattle.design.specs.Lines.{no_line, mark_of, line_of, there_in, laid_as, unscheduled, scheduled_by}
+use Rattle.design.specs.Lines.{no_line, mark_of, line_of, there_in, entered_as, laid_as, unscheduled, scheduled_by}
 use Rattle.design.specs.Schedules.{job, Schedule, Least}
 use Rattle.design.specs.Settings.{Setting, Sound}
 use Rattle.design.specs.Verdicts.{ready_hull}
@@ -19,12 +19,12 @@ use Rattle.sheet.specs.declared.call.Call.{Call}
 use Rattle.sheet.specs.declared.call.Call.TheVariants as call
 use Rattle.sheet.specs.Calls.{Answer, answer, changes}
 use Rattle.sheet.specs.Settles.{SettlesOn}
-use Rattle.sheet.proofs.Scheduling.{length_scheduled, scheduled_at}
+use Rattle.sheet.proofs.Scheduling.{map_scheduled, length_scheduled, scheduled_at}
 use Rattle.runs.specs.declared.step.Step.{Step}
 use Rattle.runs.specs.declared.step.Step.TheVariants.{Change, Settle}
 use Rattle.runs.specs.Runs.{Run}
 use Rattle.runs.specs.Laws.{sizes_of, SettledBy, ASettledSheetHasTheLeast, size_or_none, size_for, laying_back, AllThere, AsBefore, LayingBackChangesNothing}
-use Rattle.runs.proofs.Entries.{entry_of, ready_same, there_same}
+use Rattle.runs.proofs.Entries.{as_entered, ready_same, there_same}
 use Rattle.runs.proofs.Alike.{Alike, least_more}
 use Rattle.runs.proofs.Settling.{written}
 use Rattle.runs.proofs.Taking.{changes_open}
@@ -35,10 +35,6 @@ Kept s c = c.settled ≡ true → SettledBy s c
 change-keeps : (s : Setting) (c after : Contents) (x : Call) (r : Answer) → after ≡ cond (is_ok r) (changes c x) c → Kept s c → Kept s after
 change-keeps s c after x (Ok u) e kept = λ t. absurd (both_ways after.settled (ap (λ (y : Contents). y.settled) e ∙ changes_open c x) t)
 change-keeps s c after x (Err g) e kept = subst (Kept s) (sym e) kept
-
-entries_scheduled : (f : ℕ → ℕ) (ls : List Line) → map entry_of (scheduled_by f ls) ≡ map entry_of ls
-entries_scheduled f [] = refl
-entries_scheduled f (l ∷ ls) = ap (λ y. l.entry ∷ y) (entries_scheduled (λ i. f (suc i)) ls)
 
 -- the sheet with the schedule written has it as its least
 standing_at : (s : Setting) (c : Contents) (h : Hull) (sizes : Schedule) → ready_hull s c.hull c.lines ≡ Ok h → Least (job s h c.lines) sizes → SettledBy s (settled_at c sizes)
@@ -54,7 +50,7 @@ standing_at s c h sizes ready l =
     let t = written s c (settled_at c sizes) h sizes l refl in
     record {
       hull = h;
-      ready = ready_same s c.hull c.hull ls ms refl (entries_scheduled sizes ls) ∙ ready;
+      ready = ready_same s c.hull c.hull ls ms refl (map_scheduled as_entered (λ n l. refl) sizes ls) ∙ ready;
       least = least_more s h ls ms alike (sizes_of (settled_at c sizes)) (λ i k. let e = ap (λ (x : Line). x.laid) (at i k) in let a = (t.lawful i k).laid in omega arith) t;
     }
 
@@ -91,11 +87,11 @@ relaid_bare [] (y ∷ ys) r = absurd r
 relaid_bare (x ∷ xs) [] r = absurd r
 relaid_bare (x ∷ xs) (y ∷ ys) r = (record { entry = r.0.entry; laid = r.0.laid }, relaid_bare xs ys r.1)
 
-pub relaid_entries : (xs ys : List Line) → Relaid xs ys → map entry_of ys ≡ map entry_of xs
+pub relaid_entries : (xs ys : List Line) → Relaid xs ys → map as_entered ys ≡ map as_entered xs
 relaid_entries [] [] r = refl
 relaid_entries [] (y ∷ ys) r = absurd r
 relaid_entries (x ∷ xs) [] r = absurd r
-relaid_entries (x ∷ xs) (y ∷ ys) r = let e = r.0.entry in let f = relaid_entries xs ys r.1 in λ i. e i ∷ f i
+relaid_entries (x ∷ xs) (y ∷ ys) r = let e = r.0.entry in let f = relaid_entries xs ys r.1 in λ i. entered_as (e i) ∷ f i
 
 relaid_long : (xs ys : List Line) → Relaid xs ys → length ys ≡ length xs
 relaid_long [] [] r = refl

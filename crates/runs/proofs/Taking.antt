@@ -1,7 +1,7 @@
 -- What a run puts on a sheet, from the calls alone.
-use Rattle.std.proofs.Common.{◌≡◌, ℕ, suc, ◌<◌, Bool, true, false, cond, not, eqb, ltb, leb, List, [], ◌∷◌, ◌++◌, map, length, get_or, is_ok, Ok, Err, Result, sym, refl, ap, ◌∙◌, subst, arith}
-use lib.ListN.{length-map}
-use Rattle.std.proofs.lemmas.List.{get_or-map}
+use Rattle.std.proofs.Common.{◌≡◌, ℕ, Bool, true, false, cond, not, eqb, ltb, leb, List, [], ◌∷◌, ◌++◌, map, length, is_ok, Ok, Err, Result, sym, refl, ap, ◌∙◌, subst, arith}
+use Rattle.std.proofs.lemmas.List.{length-map, get_or-map}
+use Rattle.std.proofs.lemmas.Simd.{map-map}
 use Rattle.std.proofs.lemmas.Bool.{both_ways}
 use Rattle.register.specs.Keys.{placed, without, changed}
 use Rattle.terms.specs.declared.hull.Hull.{Hull}
@@ -10,7 +10,7 @@ use Rattle.terms.specs.declared.ground.Ground.TheVariants.{MarkZero, MarkTaken, 
 use Rattle.terms.specs.Questions.{◌else◌, first_no, refused_at, value_questions}
 use Rattle.design.specs.declared.line.Line.{Line}
 use Rattle.design.specs.Contents.{Contents, new_sheet, with_lines, unsettled}
-use Rattle.design.specs.Lines.{no_line, mark_of, there_in, entered_as, amended_as, laid_as, unscheduled, scheduled_by}
+use Rattle.design.specs.Lines.{no_line, mark_of, there_in, entered_as, amended_as, laid_as, unscheduled}
 use Rattle.design.specs.Schedules.{job, Lawful}
 use Rattle.design.specs.Settings.{Setting}
 use Rattle.design.specs.Verdicts.{ready_hull}
@@ -18,60 +18,49 @@ use Rattle.sheet.specs.declared.call.Call.{Call}
 use Rattle.sheet.specs.declared.call.Call.TheVariants as call
 use Rattle.sheet.specs.Calls.{Answer, answer, changes, Does}
 use Rattle.sheet.specs.Settles.{SettlesOn}
+use Rattle.sheet.proofs.Scheduling.{map_scheduled}
 use Rattle.runs.specs.declared.step.Step.{Step}
 use Rattle.runs.specs.declared.step.Step.TheVariants.{Change, Settle}
 use Rattle.runs.specs.Runs.{Run}
 use Rattle.runs.specs.Laws.{drawn_by, drawn, SettleAnswer, Answered, AllAnswered, is_settle, settled_last, TakenFromTheCalls}
-use Rattle.runs.proofs.Entries.{entry_of, ready_same, there_same}
+use Rattle.runs.proofs.Entries.{as_entered, ready_same, there_same}
 use Rattle.runs.proofs.Alike.{Alike, lawful_less}
-
-entries_bare : (ls : List Line) → map entry_of (map unscheduled ls) ≡ map entry_of ls
-entries_bare [] = refl
-entries_bare (l ∷ ls) = ap (λ y. l.entry ∷ y) (entries_bare ls)
-
-bare_bare : (ls : List Line) → map unscheduled (map unscheduled ls) ≡ map unscheduled ls
-bare_bare [] = refl
-bare_bare (l ∷ ls) = ap (λ y. unscheduled l ∷ y) (bare_bare ls)
-
-bare_scheduled : (f : ℕ → ℕ) (ls : List Line) → map unscheduled (scheduled_by f ls) ≡ map unscheduled ls
-bare_scheduled f [] = refl
-bare_scheduled f (l ∷ ls) = ap (λ y. unscheduled l ∷ y) (bare_scheduled (λ i. f (suc i)) ls)
 
 -- what a call makes of the lines does not depend on scheduled sizes, once they are cleared
 bare_placed : (x : Line) (ls : List Line) → map unscheduled (placed mark_of x (map unscheduled ls)) ≡ map unscheduled (placed mark_of x ls)
 bare_placed x [] = refl
 bare_placed x (l ∷ ls) =
     elim (ltb (mark_of x) (mark_of l)) as (λ b. map unscheduled (cond b (x ∷ unscheduled l ∷ map unscheduled ls) (unscheduled l ∷ placed mark_of x (map unscheduled ls))) ≡ map unscheduled (cond b (x ∷ l ∷ ls) (l ∷ placed mark_of x ls)))
-    [ true ↦ ap (λ y. unscheduled x ∷ unscheduled l ∷ y) (bare_bare ls) | false ↦ ap (λ y. unscheduled l ∷ y) (bare_placed x ls) ]
+    [ true ↦ ap (λ y. unscheduled x ∷ unscheduled l ∷ y) (map-map unscheduled unscheduled ls) | false ↦ ap (λ y. unscheduled l ∷ y) (bare_placed x ls) ]
 
 bare_without : (m : ℕ) (ls : List Line) → map unscheduled (without mark_of m (map unscheduled ls)) ≡ map unscheduled (without mark_of m ls)
 bare_without m [] = refl
 bare_without m (l ∷ ls) =
     elim (eqb (mark_of l) m) as (λ b. map unscheduled (cond b (map unscheduled ls) (unscheduled l ∷ without mark_of m (map unscheduled ls))) ≡ map unscheduled (cond b ls (l ∷ without mark_of m ls)))
-    [ true ↦ bare_bare ls | false ↦ ap (λ y. unscheduled l ∷ y) (bare_without m ls) ]
+    [ true ↦ map-map unscheduled unscheduled ls | false ↦ ap (λ y. unscheduled l ∷ y) (bare_without m ls) ]
 
 bare_changed : (m : ℕ) (f : Line → Line) → ((l : Line) → unscheduled (f (unscheduled l)) ≡ unscheduled (f l)) → (ls : List Line)
     → map unscheduled (changed mark_of m f (map unscheduled ls)) ≡ map unscheduled (changed mark_of m f ls)
 bare_changed m f same [] = refl
 bare_changed m f same (l ∷ ls) =
     elim (eqb (mark_of l) m) as (λ b. map unscheduled (cond b (f (unscheduled l) ∷ map unscheduled ls) (unscheduled l ∷ changed mark_of m f (map unscheduled ls))) ≡ map unscheduled (cond b (f l ∷ ls) (l ∷ changed mark_of m f ls)))
-    [ true ↦ (λ i. same l i ∷ bare_bare ls i) | false ↦ ap (λ y. unscheduled l ∷ y) (bare_changed m f same ls) ]
+    [ true ↦ (λ i. same l i ∷ map-map unscheduled unscheduled ls i) | false ↦ ap (λ y. unscheduled l ∷ y) (bare_changed m f same ls) ]
 
 bare : (c : Contents) (ls ms : List Line) → map unscheduled ls ≡ map unscheduled ms → unsettled (with_lines c ls) ≡ unsettled (with_lines c ms)
 bare c ls ms e = λ i. record { hull = c.hull; lines = e i; settled = false; room = c.room }
 
 pub unsettled_twice : (c : Contents) → unsettled (unsettled c) ≡ unsettled c
-unsettled_twice c = λ i. record { hull = c.hull; lines = bare_bare c.lines i; settled = false; room = c.room }
+unsettled_twice c = λ i. record { hull = c.hull; lines = map-map unscheduled unscheduled c.lines i; settled = false; room = c.room }
 
 changes_bare : (c : Contents) (x : Call) → changes (unsettled c) x ≡ changes c x
-changes_bare c (call.Hull h) = λ i. record { hull = (changes c (call.Hull h)).hull; lines = bare_bare c.lines i; settled = false; room = c.room }
+changes_bare c (call.Hull h) = λ i. record { hull = (changes c (call.Hull h)).hull; lines = map-map unscheduled unscheduled c.lines i; settled = false; room = c.room }
 changes_bare c (call.Enter e) = bare c (placed mark_of (entered_as e) (map unscheduled c.lines)) (placed mark_of (entered_as e) c.lines) (bare_placed (entered_as e) c.lines)
 changes_bare c (call.Amend e) = bare c (changed mark_of e.mark (amended_as e) (map unscheduled c.lines)) (changed mark_of e.mark (amended_as e) c.lines) (bare_changed e.mark (amended_as e) (λ l. refl) c.lines)
 changes_bare c (call.Strike m) = bare c (without mark_of m (map unscheduled c.lines)) (without mark_of m c.lines) (bare_without m c.lines)
 changes_bare c (call.Lay m n) = bare c (changed mark_of m (laid_as n) (map unscheduled c.lines)) (changed mark_of m (laid_as n) c.lines) (bare_changed m (laid_as n) (λ l. refl) c.lines)
 
 changes-unsettled : (c : Contents) (x : Call) → unsettled (changes c x) ≡ changes c x
-changes-unsettled c (call.Hull h) = λ i. record { hull = (changes c (call.Hull h)).hull; lines = bare_bare c.lines i; settled = false; room = c.room }
+changes-unsettled c (call.Hull h) = λ i. record { hull = (changes c (call.Hull h)).hull; lines = map-map unscheduled unscheduled c.lines i; settled = false; room = c.room }
 changes-unsettled c (call.Enter e) = unsettled_twice (with_lines c (placed mark_of (entered_as e) c.lines))
 changes-unsettled c (call.Amend e) = unsettled_twice (with_lines c (changed mark_of e.mark (amended_as e) c.lines))
 changes-unsettled c (call.Strike m) = unsettled_twice (with_lines c (without mark_of m c.lines))
@@ -86,7 +75,7 @@ changes_open c (call.Lay m n) = refl
 
 -- nor does an answer
 there_bare : (m : ℕ) (c : Contents) → there_in m (unsettled c).lines ≡ there_in m c.lines
-there_bare m c = there_same m c.lines (unsettled c).lines (entries_bare c.lines)
+there_bare m c = there_same m c.lines (unsettled c).lines (map-map as_entered unscheduled c.lines)
 
 answer_bare : (c : Contents) (x : Call) → answer (unsettled c) x ≡ answer c x
 answer_bare c (call.Hull h) = refl
@@ -109,14 +98,11 @@ change-drawn c after x r d =
     (ap unsettled d.holds ∙ by_answer c x r ∙ ap F said, said)
 
 -- lines with and without their scheduled sizes have the same lawful schedules
-at_bare : (ls : List Line) (i : ℕ) → i < length ls → get_or (map unscheduled ls) i no_line ≡ unscheduled (get_or ls i no_line)
-at_bare ls i h = get_or-map unscheduled ls i no_line no_line h
-
 alike_bare : (s : Setting) (h : Hull) (ls : List Line) → Alike s h ls (map unscheduled ls)
 alike_bare s h ls = record {
   long = length-map ls unscheduled;
-  entry = λ i k. ap (λ (l : Line). l.entry) (at_bare ls i k);
-  laid = λ i k. let e = ap (λ (l : Line). l.laid) (at_bare ls i k) in omega arith;
+  entry = λ i k. ap (λ (l : Line). l.entry) (get_or-map unscheduled ls i no_line no_line k);
+  laid = λ i k. let e = ap (λ (l : Line). l.laid) (get_or-map unscheduled ls i no_line no_line k) in omega arith;
 }
 
 bare_alike : (s : Setting) (h : Hull) (ls : List Line) → Alike s h (map unscheduled ls) ls
@@ -124,8 +110,8 @@ bare_alike s h ls =
     let long = length-map ls unscheduled in
     record {
       long = sym long;
-      entry = λ i k. sym (ap (λ (l : Line). l.entry) (at_bare ls i (omega arith)));
-      laid = λ i k. let e = ap (λ (l : Line). l.laid) (at_bare ls i (omega arith)) in omega arith;
+      entry = λ i k. sym (ap (λ (l : Line). l.entry) (get_or-map unscheduled ls i no_line no_line (omega arith)));
+      laid = λ i k. let e = ap (λ (l : Line). l.laid) (get_or-map unscheduled ls i no_line no_line (omega arith)) in omega arith;
     }
 
 settle_answered : (s : Setting) (ls : List Line) (c after : Contents) → c.lines ≡ ls → (a : Result Hull Refusal) (r : Answer) → SettlesOn s c a r after → SettleAnswer s (map unscheduled ls) a r
@@ -137,7 +123,7 @@ settle_answered s ls c after e (Ok h) (Err g) (d, none, _) =
 
 settle_drawn : (s : Setting) (c after : Contents) (a : Result Hull Refusal) (r : Answer) → SettlesOn s c a r after → unsettled after ≡ unsettled c
 settle_drawn s c after (Err g) r (_, e) = ap unsettled e
-settle_drawn s c after (Ok h) (Ok u) (sizes, _, e) = ap unsettled e ∙ (λ i. record { hull = c.hull; lines = bare_scheduled sizes c.lines i; settled = false; room = c.room })
+settle_drawn s c after (Ok h) (Ok u) (sizes, _, e) = ap unsettled e ∙ (λ i. record { hull = c.hull; lines = map_scheduled unscheduled (λ n l. refl) sizes c.lines i; settled = false; room = c.room })
 settle_drawn s c after (Ok h) (Err g) (_, _, e) = ap unsettled e
 
 settle_flag : (s : Setting) (c after : Contents) (a : Result Hull Refusal) (r : Answer) → SettlesOn s c a r after → after.settled ≡ cond (is_ok r) true c.settled
@@ -188,7 +174,7 @@ run-taken s c after (Change x ∷ xs) (r ∷ rs) (mid, d, rest) =
     then_run s c mid after (Change x) xs r rs one.0 one.1 (change_flag c mid x r d.holds) (change_stays_bare c mid x r d.holds) (run-taken s mid after xs rs rest)
 run-taken s c after (Settle ∷ xs) (r ∷ rs) (mid, d, rest) =
     let a = ready_hull s c.hull c.lines in
-    let same : ready_hull s c.hull (map unscheduled c.lines) ≡ a = ready_same s c.hull c.hull c.lines (map unscheduled c.lines) refl (entries_bare c.lines) in
+    let same : ready_hull s c.hull (map unscheduled c.lines) ≡ a = ready_same s c.hull c.hull c.lines (map unscheduled c.lines) refl (map-map as_entered unscheduled c.lines) in
     then_run s c mid after Settle xs r rs (settle_drawn s c mid a r d)
     (subst (λ (y : Result Hull Refusal). SettleAnswer s (map unscheduled c.lines) y r) (sym same) (settle_answered s c.lines c mid refl a r d))
     (settle_flag s c mid a r d) (settle_stays_bare s c mid a r d) (run-taken s mid after xs rs rest)

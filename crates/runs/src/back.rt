@@ -18,7 +18,8 @@ use terms::refusal::Refusal;
 use terms::stock::Stock;
 use trial::Lines;
 
-// The scheduled sizes of the first lines, by their places: written by place, since of what is written through a zip the proof knows no element.
+// The scheduled sizes of the first lines, by their places: written by place, since of what is written through a zip the proof knows no element. There is a place
+// for as many lines as a sheet may have, and no length beside them: the place of a mark is that of a line, so that none past the lines is read.
 fn scheduled_sizes(lines: &[Line]) -> [u16; MOST_LINES]
     ensures { SizesTo lines.now (min (length lines.now) 96) result }
 {

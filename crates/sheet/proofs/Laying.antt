@@ -1,10 +1,10 @@
 -- Laying a size at a place of a sheet, and laying the old one back.
-use Rattle.std.proofs.Common.{◌≡◌, ℕ, zero, suc, ◌≤◌, true, cond, leb, List, [], ◌∷◌, length, get_or, sym, refl, ap, ◌∙◌, subst, ⊎_elim, le-leb, arith}
+use Rattle.std.proofs.Common.{◌≡◌, ℕ, zero, suc, ◌≤◌, true, cond, leb, List, [], ◌∷◌, length, get_or, sym, refl, ap, ◌∙◌, le-leb}
 use mir.Syntax.{named}
 use denote.Struct.Declared.{row}
 use denote.Struct.Record.{values_one}
-use Rattle.std.proofs.lemmas.Bool.{and_parts, and_from, cases_Bool}
-use Rattle.std.proofs.lemmas.List.{set_past}
+use Rattle.std.proofs.lemmas.Bool.{and_parts, and_from, cond_both}
+use Rattle.std.proofs.lemmas.List.{set_past, set-get_or}
 use Rattle.register.specs.Keys.{each}
 use Rattle.register.specs.Registers.{elements_of}
 use Rattle.register.proofs.Same.{same_register}
@@ -17,20 +17,7 @@ use Rattle.sheet.specs.declared.sheet.Sheet.{Sheet}
 use Rattle.sheet.specs.contracts.sheet.Sheet.{struct, the_type}
 use Rattle.sheet.specs.Laid.{Laid}
 
--- a fact of the lines as they were and as they are laid is one of both, whether or not the size may be laid
-by_limit : (P : List Line → Type 0) (ls : List Line) (i v : ℕ) → P ls → (leb v 60000 ≡ true → P (laid_at ls i v)) → P (lay_at ls i v)
-by_limit P ls i v as-was laid =
-    ⊎_elim
-    (λ t. subst (λ b. P (cond b (laid_at ls i v) ls)) (sym t) (laid t))
-    (λ f. subst (λ b. P (cond b (laid_at ls i v) ls)) (sym f) as-was)
-    (cases_Bool (leb v 60000))
-
--- lines with what is laid on one laid again are as they were
-same_laid : (ls : List Line) (i : ℕ) → laid_at ls i (get_or ls i no_line).laid ≡ ls
-same_laid [] i = refl
-same_laid (l ∷ ls) zero = refl
-same_laid (l ∷ ls) (suc i) = ap (λ y. l ∷ y) (same_laid ls i)
-
+-- what is laid on a line laid again, after another size, leaves the lines as they were
 laid-back : (ls : List Line) (i v : ℕ) → laid_at (laid_at ls i v) i (get_or ls i no_line).laid ≡ ls
 laid-back [] i v = refl
 laid-back (l ∷ ls) zero v = refl
@@ -46,13 +33,7 @@ lay_back : (ls : List Line) (i v : ℕ) → each line_kept ls ≡ true → lay_a
 lay_back ls i v kept =
     let old = (get_or ls i no_line).laid in
     ap (λ b. cond b (laid_at (lay_at ls i v) i old) (lay_at ls i v)) (old_small ls i kept)
-    ∙ by_limit (λ l. laid_at l i old ≡ ls) ls i v (same_laid ls i) (λ _. laid-back ls i v)
-
--- nothing lies past the last line
-pub none_past : (ls : List Line) (i : ℕ) → length ls ≤ i → 0 ≡ (get_or ls i no_line).laid
-none_past [] i h = refl
-none_past (l ∷ ls) zero h = absurd (omega arith)
-none_past (l ∷ ls) (suc i) h = none_past ls i (omega arith)
+    ∙ cond_both (leb v 60000) (laid_at ls i v) ls (λ l. laid_at l i old ≡ ls) (λ _. laid-back ls i v) (λ _. set-get_or ls i no_line)
 
 -- sheets whose fields are the same are the same
 same_sheet : (s t : Sheet) → s.lines ≡ t.lines → s.hull ≡ t.hull → s.settled ≡ t.settled → s ≡ t
@@ -76,7 +57,7 @@ laid_past s i v h =
     let ls = elements_of s.lines in
     record {
       places = record { room = refl; pointer = refl; name = refl };
-      lines = sym (by_limit (λ l. l ≡ ls) ls i v refl (λ _. set_past ls i (laid_as v (get_or ls i no_line)) h));
+      lines = sym (cond_both (leb v 60000) (laid_at ls i v) ls (λ l. l ≡ ls) (λ _. set_past ls i (laid_as v (get_or ls i no_line)) h) (λ _. refl));
       hull = refl;
       settled = refl;
     }

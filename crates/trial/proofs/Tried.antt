@@ -1,10 +1,9 @@
 -- What a trial answers, and what it makes of the lines, said by the place where it lays its size.
-use Rattle.std.proofs.Common.{◌≡◌, ℕ, ◌<◌, ◌≤◌, Bool, true, false, cond, not, leb, List, [], ◌∷◌, is_some, is_ok, Some, None, Ok, Err, Option, Result, sym, refl, ap, ◌∙◌, subst, le-leb}
+use Rattle.std.proofs.Common.{◌≡◌, ℕ, ◌<◌, ◌≤◌, Bool, true, cond, leb, List, [], ◌∷◌, is_some, Some, None, Ok, Err, Option, Result, sym, ap, ◌∙◌, subst, le-leb}
 use borrow.Author.Tests.{lt-leb}
-use Rattle.std.proofs.lemmas.Bool.{both_ways}
+use Rattle.std.specs.Result.{result_map_both}
 use Rattle.register.specs.Keys.{place_of, changed}
 use Rattle.register.proofs.Orders.{found}
-use Rattle.terms.specs.declared.ground.Ground.{Ground}
 use Rattle.terms.specs.declared.ground.Ground.TheVariants.{MarkUnknown, SizeOverLimit}
 use Rattle.terms.specs.declared.refusal.Refusal.{Refusal}
 use Rattle.terms.specs.Questions.{Question, ◌else◌, first_no, all_yes, refusal_of, refused_at}
@@ -12,11 +11,6 @@ use Rattle.design.specs.Contents.{Contents, with_lines}
 use Rattle.design.specs.Lines.{mark_of, laid_as, lay_questions, no_line}
 use Rattle.design.proofs.Places.{there_is}
 use Rattle.trial.specs.Trials.{trial_answer, tried, lay_at, laid_at, MayLay}
-
--- whoever is refused changes nothing
-idle_by : {X : Type 0} (at : ℕ) (o : Option Ground) (e : Refusal) (x y : X) → refused_at at o ≡ Err e → cond (not (is_some o)) x y ≡ y
-idle_by at None e x y is = absurd (both_ways false refl (sym (ap is_ok is)))
-idle_by at (Some g) e x y is = refl
 
 module _ (c : Contents) (m n : ℕ) where
   -- the two questions of a trial, by the place of the line and by the limit
@@ -40,7 +34,7 @@ module _ (c : Contents) (m n : ℕ) where
     pub too_large : 60000 < n → trial_answer c m n ≡ Err (refusal_of SizeOverLimit m)
     too_large h = ap (λ qs. refused_at m (first_no qs)) (known _ (lt-leb n 60000 h))
 
-    pub begins : n ≤ 60000 → trial_answer c m n ≡ Ok tt
+    begins : n ≤ 60000 → trial_answer c m n ≡ Ok tt
     begins h = ap (λ qs. refused_at m (first_no qs)) (known true (le-leb n 60000 h))
 
     pub lines-tried : n ≤ 60000 → with_lines c (lay_at c.lines p n) ≡ tried c m n
@@ -49,5 +43,7 @@ module _ (c : Contents) (m n : ℕ) where
         ∙ ap (with_lines c) ((found mark_of m c.lines p e).put (laid_as n) no_line)
         ∙ sym (ap (λ qs. cond (all_yes qs) (with_lines c (changed mark_of m (laid_as n) c.lines)) c) (known true (le-leb n 60000 h)))
 
-  pub idle : (e : Refusal) → trial_answer c m n ≡ Err e → c ≡ tried c m n
-  idle e is = sym (idle_by m (first_no (lay_questions c.lines m n)) e (with_lines c (changed mark_of m (laid_as n) c.lines)) c is)
+  -- whether a trial may begin, by where it would lay its size
+  pub may_begin : (r : Result ℕ Refusal) → MayLay c m n r → result_map_both (λ _. tt) (λ e. e) r ≡ trial_answer c m n
+  may_begin (Ok p) may = sym (begins p may.0 may.1)
+  may_begin (Err e) is = sym is

@@ -39,8 +39,10 @@ pub trait Lines {
     fn place_of(&self, mark: u16) -> Option<usize>
         ensures { result ≡ place_of mark_of mark (contents self.now).lines };
 
-    /// Lays a size at a place, and answers what lay there. A place past the end, or a size above 60,000, changes nothing, and the
-    /// answer is then 0: it asks nothing of a trial, which holds a place that is there.
+    // The answer is a number and no Option: a trial holds a place that is there, and wants no more of the answer than what `back` says,
+    // which 0 keeps for a place past the end.
+    /// Lays a size at a place, and answers what was laid there, which is 0 for a place past the end. Such a place, or a size above 60,000,
+    /// changes nothing.
     fn put_at(&mut self, _: Key, place: usize, size: u16) -> u16
         ensures contents { contents self.new ≡ with_lines (contents self.old) (lay_at (contents self.old).lines place size) }
         ensures laid { laid self.old place size self.new }
@@ -91,28 +93,6 @@ fn place_for<S: Lines>(lines: &S, mark: u16, size: u16) -> Result<usize, Refusal
 }
 
 impl<'t, S: Lines> Trial<'t, S> {
-    /// Begins a trial, which is idle where the size could not be laid.
-    pub fn begin(lines: &'t mut S, mark: u16, size: u16) -> Trial<'t, S>
-        ensures name { result.lines.ghost_name ≡ lines.entry.ghost_name }
-        ensures tried { S.Lines.contents result.lines.now ≡ tried (S.Lines.contents lines.old) mark size }
-        ensures back { (t : S) → Restored S.Lines.laid result.lines.now result.earlier t → t ≡ lines.old }
-    {
-        let Ok(place) = place_for(&*lines, mark, size) else {
-            return Trial {
-                lines,
-                earlier: None,
-            };
-        };
-        let earlier = lines.put_at(Key { of_trial: () }, place, size);
-        Trial {
-            lines,
-            earlier: Some(Earlier {
-                place,
-                size: earlier,
-            }),
-        }
-    }
-
     /// The lines under the trial, by rising mark.
     pub fn lines(&self) -> &[Line]
         ensures { result.now ≡ (S.Lines.contents self.now.lines.now).lines }
@@ -160,11 +140,23 @@ pub trait Trying: Lines {
 
 impl<S: Lines> Trying for S {
     fn may_try(&self, mark: u16, size: u16) -> Result<(), Refusal> {
-        place_for(self, mark, size)?;
-        Ok(())
+        place_for(self, mark, size).map(|_| ())
     }
 
     fn trial(&mut self, mark: u16, size: u16) -> Trial<'_, Self> {
-        Trial::begin(self, mark, size)
+        let Ok(place) = place_for(&*self, mark, size) else {
+            return Trial {
+                lines: self,
+                earlier: None,
+            };
+        };
+        let earlier = self.put_at(Key { of_trial: () }, place, size);
+        Trial {
+            lines: self,
+            earlier: Some(Earlier {
+                place,
+                size: earlier,
+            }),
+        }
     }
 }

@@ -1,4 +1,5 @@
 //! Sizes, fits and pulls of the three rule books, worked out apart.
+use crate::said::{BOAT, entry};
 use aluminium::Aluminium;
 use clauses::book::ByClauses;
 use plastic::Plastic;
@@ -11,24 +12,19 @@ fn hull(length: u16, breadth: u16) -> Hull {
     Hull {
         length,
         breadth,
-        depth: 1_500,
-        draught: 800,
-        water: 1,
+        ..BOAT
     }
 }
 
 // A line of a kind at a place, with spacing, span and height.
 fn line(kind: u8, place: u8, spacing: u16, span: u16, height: u16) -> Entry {
     Entry {
-        mark: 1,
-        kind,
-        place,
         spacing,
         span,
         pressure: 100,
         height,
         strength: 1,
-        ..Entry::default()
+        ..entry(1, kind, place, 0, 0)
     }
 }
 

@@ -1,4 +1,5 @@
 //! A rule book that keeps count of its questions.
+use crate::said::BOAT;
 use clauses::book::ByClauses;
 use steel::Steel;
 use terms::book::RuleBook;
@@ -42,13 +43,6 @@ impl<B: RuleBook> RuleBook for Counted<'_, B> {
 
 #[test]
 fn a_book_may_count(rt: HostRuntime) {
-    let hull = Hull {
-        length: 10_000,
-        breadth: 3_000,
-        depth: 1_500,
-        draught: 800,
-        water: 1,
-    };
     let wall = Entry {
         mark: 1,
         kind: 4,
@@ -59,7 +53,7 @@ fn a_book_may_count(rt: HostRuntime) {
         book: &mut book,
         asked: 0,
     };
-    assert!(rt; counted.fits(hull, wall));
-    assert_eq!(rt; counted.own_size(hull, wall), 200);
+    assert!(rt; counted.fits(BOAT, wall));
+    assert_eq!(rt; counted.own_size(BOAT, wall), 200);
     assert_eq!(rt; counted.asked, 2);
 }

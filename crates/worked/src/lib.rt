@@ -3,12 +3,10 @@
 
 ghost use Rattle.worked.specs.Worked.{WorkedSizes};
 
-/// How many sizes were worked out; that the clauses give them is the contract.
-pub fn worked_sizes() -> u8
+/// The clauses give the thirteen numbers that were worked out by hand, twelve sizes and the aspect of a panel. The contract is all: there is nothing to run.
+pub fn worked_sizes()
     ensures { WorkedSizes }
-{
-    13
-}
+{}
 
 #[cfg(test)]
 mod books;
@@ -16,6 +14,8 @@ mod books;
 mod checks;
 #[cfg(test)]
 mod counted;
+#[cfg(test)]
+mod said;
 #[cfg(test)]
 mod settles;
 #[cfg(test)]

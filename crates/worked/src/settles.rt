@@ -1,5 +1,6 @@
 //! Sheets that were settled by hand.
-use crate::checks::{BOAT, blank, drawn, entry, rows};
+use crate::checks::{drawn, rows};
+use crate::said::{BOAT, entry, said, used};
 use clauses::book::ByClauses;
 use plastic::Plastic;
 use runs::back::lay_back;
@@ -14,23 +15,12 @@ use stocks::row::Row;
 use stocks::rows::Rows;
 use terms::refusal::Refusal;
 
-// The number and the place of a refusal; nothing where the call is accepted.
-fn refused(answer: Result<(), Refusal>) -> Option<(u8, usize)> {
-    match answer {
-        Ok(()) => None,
-        Err(refusal) => Some((u8::from(refusal.ground), refusal.at)),
-    }
-}
-
 // Side 1, watertight bulkhead 2 that names it, collision bulkhead 3 that names 2, with plates of 300, 400 and 500.
 #[test]
 fn steel_schedule(rt: HostRuntime) -> Result<(), Fail> {
-    let mut memory = [blank(); 3];
+    let mut memory = [used(); 3];
     let mut sheet = Sheet::new(&mut memory);
-    let mut room = [Row {
-        size: 0,
-        article: 0,
-    }; 3];
+    let mut room = [Row::default(); 3];
     let mut plates = Rows::new(&mut room);
     rows(&mut plates)?;
     let mut stiffeners = BuildUp::new(100, 100, 100)?;
@@ -58,8 +48,8 @@ fn steel_schedule(rt: HostRuntime) -> Result<(), Fail> {
     assert_eq!(rt; sheet.scheduled_size(3)?, 500);
     sheet.lay(1, 500)?;
     assert_eq!(rt;
-        refused(sheet.settle(&mut ByClauses(Steel), &mut plates, &mut stiffeners)),
-        Some((34, 0))
+        said(sheet.settle(&mut ByClauses(Steel), &mut plates, &mut stiffeners)),
+        Err((34, 0))
     );
     Ok(())
 }
@@ -67,7 +57,7 @@ fn steel_schedule(rt: HostRuntime) -> Result<(), Fail> {
 // Shell 10, deck 20, joining angle 30 beside both; plates of 200, 350, 500 and so on. A stock that ends below them gives 34, and the sheet stays as it was settled.
 #[test]
 fn plastic_schedule(rt: HostRuntime) -> Result<(), Fail> {
-    let mut memory = [blank(); 3];
+    let mut memory = [used(); 3];
     let mut sheet = Sheet::new(&mut memory);
     let mut plates = BuildUp::new(200, 150, 20)?;
     let mut thin = BuildUp::new(200, 150, 4)?;
@@ -86,8 +76,8 @@ fn plastic_schedule(rt: HostRuntime) -> Result<(), Fail> {
     assert_eq!(rt; sheet.scheduled_size(20)?, 800);
     assert_eq!(rt; sheet.scheduled_size(30)?, 500);
     assert_eq!(rt;
-        refused(sheet.settle(&mut ByClauses(Plastic), &mut thin, &mut stiffeners)),
-        Some((34, 0))
+        said(sheet.settle(&mut ByClauses(Plastic), &mut thin, &mut stiffeners)),
+        Err((34, 0))
     );
     assert_eq!(rt; sheet.scheduled_size(30)?, 500);
     sheet.lay(10, 1_000)?;
@@ -101,7 +91,7 @@ fn plastic_schedule(rt: HostRuntime) -> Result<(), Fail> {
 // Sides and watertight bulkheads in turn, each naming the next, so that the size laid on the last goes from neighbour to neighbour to the first.
 #[test]
 fn a_chain_of_96(rt: HostRuntime) -> Result<(), Fail> {
-    let mut memory = [blank(); 96];
+    let mut memory = [used(); 96];
     let mut sheet = Sheet::new(&mut memory);
     let mut plates = BuildUp::new(100, 100, 600)?;
     let mut stiffeners = BuildUp::new(100, 100, 100)?;
@@ -125,7 +115,7 @@ fn a_chain_of_96(rt: HostRuntime) -> Result<(), Fail> {
 // Settle refused for each of its questions in turn, then accepted; a later change unsettles.
 #[test]
 fn a_run_of_calls(rt: HostRuntime) -> Result<(), Fail> {
-    let mut memory = [blank(); 2];
+    let mut memory = [used(); 2];
     let mut sheet = Sheet::new(&mut memory);
     let mut plates = BuildUp::new(200, 150, 20)?;
     let mut stiffeners = BuildUp::new(100, 100, 100)?;
@@ -151,19 +141,17 @@ fn a_run_of_calls(rt: HostRuntime) -> Result<(), Fail> {
     );
     assert_eq!(rt; count, 9);
     let expected = [
-        Some((31, 0)),
-        None,
-        None,
-        Some((32, 5)),
-        None,
-        Some((33, 6)),
-        None,
-        Some((23, 7)),
-        None,
+        Err((31, 0)),
+        Ok(()),
+        Ok(()),
+        Err((32, 5)),
+        Ok(()),
+        Err((33, 6)),
+        Ok(()),
+        Err((23, 7)),
+        Ok(()),
     ];
-    for i in 0..9 {
-        assert_eq!(rt; refused(answers[i]), expected[i]);
-    }
+    assert_eq!(rt; answers.map(said), expected);
     assert_eq!(rt; sheet.scheduled_size(5)?, 800);
     assert_eq!(rt; sheet.scheduled_size(6)?, 800);
     Ok(())

@@ -81,8 +81,7 @@ impl<'a> Sheet<'a> {
         entry.check_limits()?;
         self.add(Line {
             entry,
-            laid: 0,
-            scheduled: 0,
+            ..Line::default()
         })?;
         self.unsettle();
         Ok(())
@@ -109,6 +108,7 @@ impl<'a> Sheet<'a> {
         Ok(())
     }
 
+    // What is asked is asked of a trial too, apart: a lay wants the line, with its limits, and a trial no more than the place.
     /// Lays a size on a line, up or down; 0 takes it away.
     pub fn lay(&mut self, mark: u16, size: u16) -> Result<(), Refusal>
         ensures { Does (contents self.old) (call.Lay mark size) result (contents self.new) }

@@ -2,8 +2,9 @@
 ghost use Rattle.std.specs.Prelude.{◌≡◌, ◌<◌, true, length, None, is_ok, if◌then◌else◌, slice_index_or, slice_set};
 ghost use Rattle.std.specs.List.{remove};
 ghost use Rattle.register.specs.Keys.{placed};
+ghost use Rattle.register.specs.Registers.{SamePlaces};
 ghost use Rattle.terms.specs.Questions.{first_no, refused_at};
-ghost use Rattle.design.specs.Lines.{no_line, mark_of, line_of, line_kept, unscheduled, scheduled_as};
+ghost use Rattle.design.specs.Lines.{no_line, mark_of, line_of, line_kept, scheduled_as};
 ghost use Rattle.design.specs.Contents.{with_lines, unsettled, settled_at};
 ghost use Rattle.least.specs.Least.{listed};
 ghost use Rattle.sheet.specs.Sheets.{contents, lines_of, Found, room_questions};
@@ -14,22 +15,7 @@ use register::Change;
 use terms::ground::Ground;
 use terms::refusal::Refusal;
 
-// The scheduled sizes hold no longer.
-#[derive(Clone, Copy)]
-struct Unscheduled;
-
-impl Change<Line> for Unscheduled {
-    ghost gives = { λ _ _ l. unscheduled l };
-
-    fn change(&self, _: usize, line: Line) -> Line {
-        Line {
-            scheduled: 0,
-            ..line
-        }
-    }
-}
-
-// Each line gets the size of its place.
+// Each line gets the size of its place, 0 where there is none.
 #[derive(Clone, Copy)]
 struct Scheduled<'s> {
     sizes: &'s [u16],
@@ -61,7 +47,8 @@ impl Sheet<'_> {
         requires place { place < length (lines_of self.old) }
         requires mark { line.entry.mark ≡ mark_of (slice_index_or (lines_of self.old) place no_line) }
         requires kept { line_kept line ≡ true }
-        ensures { contents self.new ≡ with_lines (contents self.old) (slice_set (lines_of self.old) place line) }
+        ensures holds { contents self.new ≡ with_lines (contents self.old) (slice_set (lines_of self.old) place line) }
+        ensures places { SamePlaces self.old.lines self.new.lines }
     {
         let _ = self.lines.replace(place, line);
     }
@@ -84,11 +71,11 @@ impl Sheet<'_> {
         let _ = self.lines.remove(place);
     }
 
-    // The scheduled sizes hold no longer.
+    // The scheduled sizes hold no longer: none is written.
     pub(super) fn unsettle(&mut self)
         ensures { contents self.new ≡ unsettled (contents self.old) }
     {
-        self.lines.change_each(&Unscheduled);
+        self.write(&[]);
         self.settled = false;
     }
 

@@ -41,7 +41,7 @@ impl<'a> Lines for Sheet<'a> {
             return 0;
         };
         if size <= LARGEST_SIZE {
-            let _ = self.lines.replace(place, Line { laid: size, ..line });
+            self.put(place, Line { laid: size, ..line });
         }
         line.laid
     }

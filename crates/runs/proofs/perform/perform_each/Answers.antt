@@ -1,4 +1,4 @@
-use Rattle.std.proofs.Common.{◌≡◌, ℕ, ◌<◌, List, length, take, ◌∙◌, subst, arith}
+use Rattle.std.proofs.Common.{◌≡◌, ℕ, ◌<◌, min, List, length, take, ◌∙◌, subst, arith}
 use Rattle.std.proofs.lemmas.List.{drop-set-lt, take_all, length-take-le}
 use Rattle.sheet.specs.Sheets.{contents}
 use Rattle.runs.specs.declared.step.Step.{Step}
@@ -6,12 +6,15 @@ use Rattle.runs.specs.Runs.{Run}
 use Rattle.runs.proofs.Running.{run_next}
 use Rattle.runs.proofs.perform.perform_each.Goals as goal
 
+taken : (xs : List Step) (k n : ℕ) → n ≡ min (length xs) k → length (take n xs) ≡ n
+taken xs k n e = length-take-le n xs (omega arith)
+
 pub loop-i-preserved : goal.loop-i-preserved
 loop-i-preserved g c =
     let w = c.loop-i.invariant in
     let n = c.min-count.result in
     let steps = take n c.args.steps.now in
-    let long : length steps ≡ n = length-take-le n c.args.steps.now (omega (arith, c.min-count.ensures)) in
+    let long = taken c.args.steps.now _ n c.min-count.ensures in
     let h : c.loop-i.i < length steps = c.loop-i-test.true in
     let l : c.loop-i.i < length c.loop-i.answers = omega (arith, c.loop-i.auto.answers, c.min-count.ensures, long, h) in (
       c.perform.ensures.kept.same ∙ w.0,
@@ -25,7 +28,7 @@ pub returns-clause-run : goal.returns-clause-run
 returns-clause-run g c =
     let n = c.min-count.result in
     let steps = take n c.args.steps.now in
-    let long : length steps ≡ n = length-take-le n c.args.steps.now (omega (arith, c.min-count.ensures)) in
+    let long = taken c.args.steps.now _ n c.min-count.ensures in
     let at : c.loop-i.i ≡ n = omega (arith, long, c.loop-i-test.false, c.loop-i.auto.i-end) in
     subst (λ (x : List Step × ℕ). Run (g.D.DesignBasis.setting c.args.basis.now) (contents c.args.sheet.now) x.0 (take x.1 c.loop-i.answers) (contents c.loop-i.sheet))
     (λ j. (take_all c.loop-i.i steps c.loop-i-test.false j, at j)) c.loop-i.invariant.2
@@ -33,5 +36,4 @@ returns-clause-run g c =
 pub returns-clause-rest : goal.returns-clause-rest
 returns-clause-rest g c =
     let n = c.min-count.result in
-    let long : length (take n c.args.steps.now) ≡ n = length-take-le n c.args.steps.now (omega (arith, c.min-count.ensures)) in
-    c.loop-i.invariant.3 n (omega (arith, long, c.loop-i.auto.i-end))
+    c.loop-i.invariant.3 n (omega (arith, taken c.args.steps.now _ n c.min-count.ensures, c.loop-i.auto.i-end))

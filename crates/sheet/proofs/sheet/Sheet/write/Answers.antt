@@ -1,10 +1,10 @@
-use Rattle.std.proofs.Common.{true, refl, ap, ◌∙◌, arith}
-use Rattle.register.specs.Keys.{climbs, each}
+use Rattle.std.proofs.Common.{ℕ, true, refl, ◌∙◌}
 use Rattle.register.proofs.Each.{each-changed}
 use Rattle.register.proofs.Orders.{climbs-changed}
 use Rattle.design.specs.Lines.{mark_of, line_kept, scheduled_as}
 use Rattle.least.specs.Least.{listed}
 use Rattle.sheet.specs.Sheets.{lines_of}
+use Rattle.sheet.proofs.Keeping.{still_sheet}
 use Rattle.sheet.proofs.Scheduling.{each_scheduled}
 use Rattle.sheet.proofs.sheet.Sheet.write.Goals as goal
 
@@ -13,13 +13,8 @@ invariant_of-self c =
     let s = c.args.self.now in
     let ls = lines_of s in
     let e = c.change_each.ensures in
-    let size = listed c.args.sizes.now in
-    record {
-      small = omega (arith, e.places.room, s.small);
-      climbing = ap (climbs mark_of 0) e.elements ∙ climbs-changed mark_of (λ i. scheduled_as (size i)) (λ _ _. refl) 0 ls ∙ s.climbing;
-      proper = s.proper;
-      limits = ap (each line_kept) e.elements ∙ each-changed line_kept (λ i. scheduled_as (size i)) (λ _ _. refl) ls ∙ s.limits;
-    }
+    let f = λ (i : ℕ). scheduled_as (listed c.args.sizes.now i) in
+    still_sheet s _ e.places e.elements (climbs-changed mark_of f (λ _ _. refl) 0 ls ∙ s.climbing, each-changed line_kept f (λ _ _. refl) ls ∙ s.limits)
 
 pub returns : goal.returns
 returns c =
