@@ -123,7 +123,7 @@ impl<'t, S: Lines> Trial<'t, S> {
     }
 }
 
-/// Trials of whatever holds lines: `sheet.trial(mark, size)`.
+/// Trials of whatever holds lines: `sheet.trial(mark, size)`, with mark and size as a lay takes them.
 pub trait Trying: Lines {
     /// Whether a trial of the size on the line of the mark may begin.
     fn may_try(&self, mark: u16, size: u16) -> Result<(), Refusal>
