@@ -79,7 +79,7 @@ impl<D: DesignBasis> Job<'_, D> {
         line.touches(other) && line.laid < self.pull(line, other, other.laid)
     }
 
-    // Fails with the mark of the first line whose pull line i does not bear.
+    // Fails with the mark of the first line whose pull line i does not bear: the mark alone, since line and ground are known to whoever asks.
     fn check_pulls(&mut self, i: usize) -> Result<(), u16>
         requires { i < length self.old.lines.now }
         ensures value { Pulled (job_of D.setting self.old) i result }
