@@ -4,7 +4,7 @@ ghost use Rattle.clauses.specs.Rounding.{divided_up, RoundedUp, per_cent, ended}
 
 use terms::limits::LARGEST_SIZE;
 
-/// The end of sizes: one above the largest.
+/// The end of sizes: one above the largest. A number and no absence of one, since it is compared with sizes like one; no stock reaches it.
 pub const END: u16 = LARGEST_SIZE + 1;
 
 /// `n / d` rounded up; 0 where `d` is 0.

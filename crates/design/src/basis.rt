@@ -78,6 +78,7 @@ impl<B: RuleBook, P: Stock, S: Stock> DesignBasis for Basis<'_, '_, '_, B, P, S>
         self.book.pull(hull, line, neighbour, size)
     }
 
+    // Plates and stiffeners have stocks of two types, so that each question chooses between them.
     fn is_stocked(&mut self, hull: Hull, line: Entry, size: u16) -> bool {
         if self.book.is_plate(hull, line) {
             self.plates.holds(size)

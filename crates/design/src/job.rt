@@ -6,7 +6,8 @@ use crate::basis::DesignBasis;
 use crate::line::Line;
 use terms::hull::Hull;
 
-/// What a schedule is for: lines, by their places from 0 on, on a hull, by a design basis that is lent.
+/// What a schedule is for: lines, by their places from 0 on, on a hull, by a design basis that is lent. A method that asks the basis may change it, and says for
+/// itself that the job is kept: a type speaks of one state, and this is of two.
 #[derive(Drop)]
 pub struct Job<'j, D> {
     pub basis: &'j mut D,

@@ -13,6 +13,6 @@ pub enum Call {
     Amend(Entry),
     /// remove the line of a mark
     Strike(u16),
-    /// lay a size on the line of a mark
+    /// lay a size on the line of a mark: two numbers, as records spell them and users say them
     Lay(u16, u16),
 }

@@ -18,7 +18,7 @@ pub mod tried;
 pub struct Sheet<'a> {
     lines: Register<'a, Line>,
     hull: Option<Hull>,
-    // A flag beside the sizes, which are the caller's to read from the lines in the memory that is lent.
+    // A flag about all lines, beside their sizes, which are the caller's to read from the memory that is lent.
     settled: bool,
     ghost small: { room_of lines ≤ 96 },
     ghost climbing: { climbs mark_of 0 (elements_of lines) ≡ true },

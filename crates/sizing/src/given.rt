@@ -51,7 +51,7 @@ fn size(
     }
 }
 
-// The stock that is built up of a series.
+// The stock that is built up of a series. No `TryFrom`, since neither type is of this crate.
 fn build_up(of: Series) -> Result<BuildUp, Refusal>
     ensures { result_map_both series (λ refusal. refusal) result ≡ series_given of }
 {

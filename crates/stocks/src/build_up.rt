@@ -22,6 +22,7 @@ pub struct BuildUp {
 }
 
 impl BuildUp {
+    // Three numbers and no type of them, since this is the type: not every three make one.
     /// Refused where a number is 0, or the last size is above 60,000.
     pub fn new(first: u16, step: u16, count: u16) -> Result<BuildUp, Refusal>
         ensures made { is_ok result ≡ buildable first step count }

@@ -9,8 +9,8 @@ pub struct Entry {
     pub mark: u16,
     /// which member it is; a number, since each rule book names its own kinds
     pub kind: u8,
-    /// where it stands: 0 elsewhere, 1 in the engine room, 2 at the engine seat; each rule book reads it in its own way, and
-    /// any other number is refused by its value
+    /// where it stands: 0 elsewhere, 1 in the engine room, 2 at the engine seat; a rule book reads it in its own way or not at
+    /// all, and any other number is refused by its value
     pub place: u8,
     /// the marks of two neighbours, 0 for none: a number, since it is spelled as one and refused by its value
     pub near: u16,

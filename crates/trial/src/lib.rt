@@ -129,6 +129,7 @@ pub trait Trying: Lines {
     fn may_try(&self, mark: u16, size: u16) -> Result<(), Refusal>
         ensures { result ≡ trial_answer (Self.Lines.contents self.now) mark size };
 
+    // No Result: a trial that was begun wrongly is held like any other, and its end puts nothing back.
     /// Begins a trial, which is idle where it may not begin.
     fn trial(&mut self, mark: u16, size: u16) -> Trial<'_, Self>
     where

@@ -54,8 +54,8 @@ pub fn sheet_verdict_with<B: RuleBook, P: Stock, S: Stock>(
     verdict_with(sheet, book, plates, stiffeners, mark, size)
 }
 
-/// Whether the design would pass with the size on the line of the mark. It holds a trial of its own, which a refused check leaves early: that the lines are as
-/// they were on that way too stands here.
+// It holds a trial of its own, which a refused check leaves early: that lines are as they were on that way too is to be seen on a call that goes it.
+/// Whether the design would pass with the size on the line of the mark.
 pub fn passes_with<L: Lines, B: RuleBook, P: Stock, S: Stock>(
     lines: &mut L,
     book: &mut B,

@@ -49,8 +49,9 @@ pub fn next_word(text: &[u8]) -> Option<(&[u8], &[u8])>
     (!word.is_empty()).then_some((word, rest))
 }
 
-// Lines and words are two iterators of one shape, since each shows its own list of items. The library's give other items: `split` of a slice one more after the last
-// newline, and empty ones between two blanks; the lines of its byte strings lose a carriage return before the newline, and their fields are told by decoded characters.
+// Lines and words are two iterators of one shape, since each shows its own list of items. The library's iterators do not serve: `split` of a slice shows no list, and gives
+// one item more after the last newline and empty ones between two blanks; the lines of byte strings lose a carriage return before the newline, and their fields are told
+// by decoded characters.
 /// The lines of a text, first to last.
 #[derive(Drop)]
 pub struct Lines<'a> {

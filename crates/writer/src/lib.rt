@@ -61,7 +61,8 @@ fn lay_bytes(mark: u16, size: u16) -> [u8; 5]
     [u8::from(Command::Lay), m1, m0, s1, s0]
 }
 
-// Goes along bytes that are written front to back. The place stands beside the whole output: of a part that is lent on, the proof knows nothing afterwards.
+// Goes along bytes that are written front to back. The place stands beside the whole output: of a cursor that holds only the part which is left, and moves in it, the
+// proof knows nothing afterwards.
 #[derive(Drop)]
 struct Cursor<'o> {
     out: &'o mut [u8],
