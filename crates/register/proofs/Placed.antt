@@ -1,7 +1,6 @@
 -- Where a new element goes.
 use Rattle.std.proofs.Common.{◌≡◌, ℕ, ◌+◌, ◌≤◌, true, false, cond, ltb, List, [], ◌∷◌, length, sym, refl, ap, ◌∙◌, zero-le, one-add, arith}
 use Rattle.std.specs.List.{insert}
-use Rattle.std.proofs.lemmas.List.Edits.{length-insert}
 use Rattle.std.proofs.lemmas.Bool.Decides.{nat_tests}
 use Rattle.register.specs.Keys.{placed, rank}
 
@@ -16,6 +15,3 @@ module _ {X : Type 0} (key : X → ℕ) where
   placed_is e (x ∷ xs) =
       elim (ltb (key e) (key x)) as (λ b. cond b (e ∷ x ∷ xs) (x ∷ placed key e xs) ≡ insert (x ∷ xs) (cond b 0 (1 + rank key (key e) xs)) e)
       [ true ↦ refl | false ↦ ap (λ y. x ∷ y) (placed_is e xs) ∙ ap (λ n. insert (x ∷ xs) n e) (sym (one-add (rank key (key e) xs))) ]
-
-  pub length-placed : (e : X) (xs : List X) → length (placed key e xs) ≡ length xs + 1
-  length-placed e xs = ap length (placed_is e xs) ∙ length-insert xs (rank key (key e) xs) e (rank_le (key e) xs)

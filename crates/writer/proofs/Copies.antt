@@ -1,21 +1,15 @@
 -- A sheet is written and read back.
-use Rattle.std.proofs.Common.{◌≡◌, ℕ, ◌+◌, Bool, true, false, cond, List, length, take, drop, is_some, Some, None, Ok, Err, Option, sym, refl, ap, ◌∙◌, subst}
+use Rattle.std.proofs.Common.{◌≡◌, ℕ, ◌+◌, Bool, true, false, cond, List, length, take, drop, is_some, Some, None, Ok, Option, sym, refl, ap, ◌∙◌, subst}
 use Rattle.std.proofs.lemmas.List.{take_at}
 use Rattle.terms.specs.declared.ground.Ground.{Ground}
 use Rattle.terms.specs.declared.ground.Ground.TheVariants.{HullMissing}
-use Rattle.terms.specs.declared.refusal.Refusal.{Refusal}
 use Rattle.terms.specs.Questions.{first_no}
 use Rattle.design.specs.Contents.{Contents}
 use Rattle.sheet.specs.Calls.{Answer}
-use Rattle.record.specs.Reading.{at_place}
 use Rattle.record.specs.Obeying.{Read}
 use Rattle.writer.specs.Writing.{recorded, write_questions, count_or, Wrote}
-use Rattle.writer.specs.Copying.{Proper, Unwritten, Handed}
+use Rattle.writer.specs.Copying.{Proper, Handed}
 use Rattle.writer.proofs.Trip.{round_trip}
-
-ground_of : (n : ℕ) (o : Option Ground) (e : Refusal) → count_or n o ≡ Err e → (g : Ground) × (o ≡ Some g) × (e ≡ at_place g 0)
-ground_of n None e h = cc
-ground_of n (Some g) e h = (g, refl, (cc))
 
 count_of : (n : ℕ) (o : Option Ground) (m : ℕ) → count_or n o ≡ Ok m → (o ≡ None) × (m ≡ n)
 count_of n None m h = (refl, (cc))
@@ -24,11 +18,6 @@ count_of n (Some g) m h = cc
 has_hull : (b : Bool) (o : Option Ground) → cond b o (Some HullMissing) ≡ None → b ≡ true
 has_hull true o e = refl
 has_hull false o e = cc
-
-pub unwritten : {c : Contents} {out buffer : List ℕ} {e : Refusal} → Wrote c out 0 (Err e) buffer → (before : Contents) (r : Answer) → r ≡ Err e → Unwritten c out before r buffer before
-unwritten {c} {out} {buffer} {e} wrote before r same =
-    let g = ground_of _ (first_no (write_questions c (length out) 0)) e (sym wrote.answers) in
-    record { ground = g.0; asked = g.1; answers = same ∙ ap Err g.2; bytes = wrote.leaves; sheet = refl }
 
 pub handed : {c before after : Contents} {out buffer : List ℕ} {n : ℕ} {r : Answer} → Wrote c out 0 (Ok n) buffer → Proper c → Read (take n buffer) before r after → Handed c out before r buffer after
 handed {c} {before} {after} {out} {buffer} {n} {r} wrote p f =

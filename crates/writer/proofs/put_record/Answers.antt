@@ -19,11 +19,6 @@ loop-line-preserved c =
     subst (Puts c.put.new.self c.put_line.new.self) (flat_map_more line_bytes [] (take i ls) _ ∙ ap lines_bytes (sym (take_more ls i no_line c.loop-line-test.true)))
     (both c.loop-line.invariant c.put_line.ensures)
 
-pub put-requires-2 : goal.put-requires-2
-put-requires-2 c =
-    let ls = c.args.lines.now in
-    omega (arith, ap (λ l. length (lines_bytes l)) (take_all c.loop-line.line-index ls c.loop-line-test.false), ap length c.hull_bytes.ensures)
-
 pub returns : goal.returns
 returns c =
     let ls = c.args.lines.now in

@@ -1,5 +1,4 @@
 use Rattle.std.proofs.Common.{length, drop, replicate, ◌-◌, ◌++◌, sym, subst, rules, ◌≡◌}
-use Rattle.std.proofs.lemmas.Option.{slice_get_read}
 use Rattle.register.proofs.Vacant.{one_more}
 use Rattle.register.proofs.Register.remove.Goals as goal
 
@@ -9,6 +8,3 @@ invariant_of-self-clause-rest g c =
     let v = g.E.Keyed.vacant in
     subst (λ l. drop (s.count - 1) (l ++ drop s.count s.slots.now) ≡ replicate (length (l ++ drop s.count s.slots.now) - (s.count - 1)) v) (sym c.take_out.ensures)
     (one_more v s.count s.slots.now s.rest c.args.place (search rules) s.fits)
-
-pub returns-clause-answer : goal.returns-clause-answer
-returns-clause-answer g c = search (rules, slice_get_read)

@@ -1,7 +1,4 @@
-use Rattle.std.proofs.Common.{ℕ, List, subst}
-use Rattle.std.proofs.lemmas.List.{take_all}
 use Rattle.sheet.specs.Sheets.{contents}
-use Rattle.runs.specs.Back.{LaidTo}
 use Rattle.runs.proofs.Laying.{laying_none, laying_more}
 use Rattle.runs.proofs.back.lay_each.Goals as goal
 
@@ -10,6 +7,3 @@ loop-mark-init c = laying_none (contents c.args.sheet.now)
 
 pub loop-mark-preserved : goal.loop-mark-preserved
 loop-mark-preserved c = laying_more _ _ _ c.args.sizes.now c.args.marks.now c.loop-mark.mark-index _ _ _ c.requires c.loop-mark-test.true c.loop-mark.invariant c.lay_one.ensures c.and-first.ensures
-
-pub returns : goal.returns
-returns c = subst (λ (ms : List ℕ). LaidTo (contents c.args.sheet.now) ms c.loop-mark.first (contents c.loop-mark.sheet)) (take_all c.loop-mark.mark-index c.args.marks.now c.loop-mark-test.false) c.loop-mark.invariant.laid

@@ -1,8 +1,7 @@
-use Rattle.std.proofs.Common.{◌≡◌, ℕ, ◌<◌, min, List, length, take, ◌∙◌, subst, arith}
-use Rattle.std.proofs.lemmas.List.{drop-set-lt, take_all, length-take-le}
+use Rattle.std.proofs.Common.{◌≡◌, ℕ, ◌<◌, min, List, length, take, ◌∙◌, arith}
+use Rattle.std.proofs.lemmas.List.{drop-set-lt, length-take-le}
 use Rattle.sheet.specs.Sheets.{contents}
 use Rattle.runs.specs.declared.step.Step.{Step}
-use Rattle.runs.specs.Runs.{Run}
 use Rattle.runs.proofs.Running.{run_next}
 use Rattle.runs.proofs.perform.perform_each.Goals as goal
 
@@ -23,17 +22,3 @@ loop-i-preserved g c =
           steps c.loop-i.answers c.loop-i.i _ c.perform.result h l w.2 c.perform.ensures.takes,
       λ k m. drop-set-lt k c.loop-i.answers c.loop-i.i c.perform.result (omega arith) ∙ w.3 k (omega arith),
     )
-
-pub returns-clause-run : goal.returns-clause-run
-returns-clause-run g c =
-    let n = c.min-count.result in
-    let steps = take n c.args.steps.now in
-    let long = taken c.args.steps.now _ n c.min-count.ensures in
-    let at : c.loop-i.i ≡ n = omega (arith, long, c.loop-i-test.false, c.loop-i.auto.i-end) in
-    subst (λ (x : List Step × ℕ). Run (g.D.DesignBasis.setting c.args.basis.now) (contents c.args.sheet.now) x.0 (take x.1 c.loop-i.answers) (contents c.loop-i.sheet))
-    (λ j. (take_all c.loop-i.i steps c.loop-i-test.false j, at j)) c.loop-i.invariant.2
-
-pub returns-clause-rest : goal.returns-clause-rest
-returns-clause-rest g c =
-    let n = c.min-count.result in
-    c.loop-i.invariant.3 n (omega (arith, taken c.args.steps.now _ n c.min-count.ensures, c.loop-i.auto.i-end))
