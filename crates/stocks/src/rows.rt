@@ -1,9 +1,9 @@
 //! A stock that is listed row by row, in memory that is lent to it.
-ghost use Rattle.std.specs.Prelude.{◌≡◌, true, [], length, is_ok, if◌then◌else◌};
+ghost use Rattle.std.specs.Prelude.{◌≡◌, ◌-◌, ◌≤◌, true, [], length, drop, replicate, is_ok, if◌then◌else◌};
 ghost use Rattle.register.specs.Keys.{climbs, each, placed};
 ghost use Rattle.register.specs.Registers.{elements_of};
 ghost use Rattle.terms.specs.Stocks.{AtLeast};
-ghost use Rattle.stocks.specs.RowLists.{size_of, sized, is_small, add_answer};
+ghost use Rattle.stocks.specs.RowLists.{no_row, size_of, sized, is_small, add_answer};
 
 use crate::row::Row;
 use register::Register;
@@ -16,6 +16,8 @@ use terms::stock::Stock;
 #[derive(Drop)]
 pub struct Rows<'a> {
     rows: Register<'a, Row>,
+    ghost fits: { rows.count ≤ length rows.slots.now },
+    ghost rest: { drop rows.count rows.slots.now ≡ replicate (length rows.slots.now - rows.count) no_row },
     ghost climbing: { climbs size_of 0 (elements_of rows) ≡ true },
     ghost within: { each is_small (elements_of rows) ≡ true },
 }
