@@ -11,7 +11,6 @@ use crate::book::Book;
 use crate::fault::Fault;
 use crate::reply::Reply;
 use aluminium::Aluminium;
-use clauses::book::ByClauses;
 use needs::need::{Need, needed};
 use plastic::Plastic;
 use steel::Steel;
@@ -45,9 +44,9 @@ fn size(
 {
     let (plates, stiffeners) = (&mut plates, &mut stiffeners);
     match book {
-        Book::Steel => needed(&mut ByClauses(Steel), plates, stiffeners, hull, line),
-        Book::Plastic => needed(&mut ByClauses(Plastic), plates, stiffeners, hull, line),
-        Book::Aluminium => needed(&mut ByClauses(Aluminium), plates, stiffeners, hull, line),
+        Book::Steel => needed(&mut Steel, plates, stiffeners, hull, line),
+        Book::Plastic => needed(&mut Plastic, plates, stiffeners, hull, line),
+        Book::Aluminium => needed(&mut Aluminium, plates, stiffeners, hull, line),
     }
 }
 
