@@ -170,6 +170,7 @@ impl<'a, E: Keyed> Register<'a, E> {
     }
 
     /// Puts an element among the others, in the order of keys; those after it move up. Refused, and nothing changes, where no place is free.
+    #[tactic(auto, using(crate::proofs::Held::put_in_front))]
     pub fn insert(&mut self, e: E) -> Result<(), Full>
         ensures answer { is_ok result ≡ nat_lt self.old.count (room_of self.old) }
         ensures slots { self.new.slots.now ≡ (if is_ok result then placed E.Keyed.key e (elements_of self.old) ++ drop (self.old.count + 1) self.old.slots.now else self.old.slots.now) }
