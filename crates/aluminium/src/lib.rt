@@ -4,18 +4,19 @@
 ghost use Rattle.std.specs.Prelude.{◌≡◌, ◌*◌, ◌^◌, max};
 ghost use Rattle.clauses.specs.Panels.{bending, panel_thickness};
 ghost use Rattle.clauses.specs.Rounding.{divided_up};
-ghost use Rattle.aluminium.specs.Aluminium.{clauses, rising, aspect};
+ghost use Rattle.aluminium.specs.Aluminium.{aluminium, aluminium_law, clauses, rising, aspect};
 
 use crate::kind::Kind;
-use clauses::book::Clauses;
+use clauses::book::{ByClauses, Clauses};
 use clauses::panel::{Panel, bending_of, is_spanned};
 use clauses::rounding::divided_up;
+use terms::book::RuleBook;
 use terms::entry::Entry;
 use terms::hull::Hull;
 
 pub mod kind;
 
-/// The clauses for aluminium fast craft; `ByClauses(Aluminium)` is the rule book.
+/// The rules for aluminium fast craft.
 #[derive(Clone, Copy)]
 pub struct Aluminium;
 
@@ -111,5 +112,31 @@ impl Clauses for Aluminium {
             (Ok(Kind::KeelPlate), Ok(Kind::Bottom)) => u128::from(size) + 100,
             _ => 0,
         }
+    }
+}
+
+// Alike in the three books, and stands in each: `clauses` may not write it for every book, since the trait is of `terms`, and a macro of our own may write no impl.
+/// Each question is answered by the rule book that the clauses make.
+impl RuleBook for Aluminium {
+    const NUMBER: u8 = <Aluminium as Clauses>::NUMBER;
+
+    ghost meaning = { λ _. aluminium };
+
+    ghost law = { λ _. aluminium_law };
+
+    fn fits(&mut self, hull: Hull, line: Entry) -> bool {
+        ByClauses(*self).fits(hull, line)
+    }
+
+    fn is_plate(&mut self, hull: Hull, line: Entry) -> bool {
+        ByClauses(*self).is_plate(hull, line)
+    }
+
+    fn own_size(&mut self, hull: Hull, line: Entry) -> u16 {
+        ByClauses(*self).own_size(hull, line)
+    }
+
+    fn pull(&mut self, hull: Hull, line: Entry, neighbour: Entry, size: u16) -> u16 {
+        ByClauses(*self).pull(hull, line, neighbour, size)
     }
 }

@@ -1,5 +1,4 @@
 //! The lines of a sheet.
-ghost use Rattle.std.proofs.Common.{rules};
 ghost use Rattle.std.specs.Prelude.{◌≡◌};
 ghost use Rattle.design.specs.Lines.{no_line};
 ghost use Rattle.design.specs.Schedules.{naming, touching};
@@ -40,5 +39,7 @@ impl Keyed for Line {
         self.entry.mark
     }
 
-    ghost default_is_vacant = { Prim.search rules };
+    fn vacancy() -> Line {
+        Line::default()
+    }
 }

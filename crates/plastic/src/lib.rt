@@ -2,18 +2,19 @@
 #![tactic(auto)]
 
 ghost use Rattle.std.specs.Prelude.{◌≡◌, ◌^◌, ◌<◌};
-ghost use Rattle.plastic.specs.Plastic.{clauses, rising, calm, at_engine_seat, near_engine, head, GreaterHead, modulus, keelson};
+ghost use Rattle.plastic.specs.Plastic.{plastic, plastic_law, clauses, rising, calm, at_engine_seat, near_engine, head, GreaterHead, modulus, keelson};
 
 use crate::kind::Kind;
-use clauses::book::Clauses;
+use clauses::book::{ByClauses, Clauses};
 use clauses::panel::{bending_of, is_spanned};
 use clauses::rounding::{divided_up, percentage};
+use terms::book::RuleBook;
 use terms::entry::Entry;
 use terms::hull::Hull;
 
 pub mod kind;
 
-/// The clauses for reinforced-plastic fishing boats; `ByClauses(Plastic)` is the rule book.
+/// The rules for reinforced-plastic fishing boats.
 #[derive(Clone, Copy)]
 pub struct Plastic;
 
@@ -114,5 +115,31 @@ impl Clauses for Plastic {
             (Ok(Kind::JoiningAngle), Ok(Kind::Shell | Kind::Deck)) => divided_up(whole, 2),
             _ => 0,
         }
+    }
+}
+
+// Alike in the three books, and stands in each: `clauses` may not write it for every book, since the trait is of `terms`, and a macro of our own may write no impl.
+/// Each question is answered by the rule book that the clauses make.
+impl RuleBook for Plastic {
+    const NUMBER: u8 = <Plastic as Clauses>::NUMBER;
+
+    ghost meaning = { λ _. plastic };
+
+    ghost law = { λ _. plastic_law };
+
+    fn fits(&mut self, hull: Hull, line: Entry) -> bool {
+        ByClauses(*self).fits(hull, line)
+    }
+
+    fn is_plate(&mut self, hull: Hull, line: Entry) -> bool {
+        ByClauses(*self).is_plate(hull, line)
+    }
+
+    fn own_size(&mut self, hull: Hull, line: Entry) -> u16 {
+        ByClauses(*self).own_size(hull, line)
+    }
+
+    fn pull(&mut self, hull: Hull, line: Entry, neighbour: Entry, size: u16) -> u16 {
+        ByClauses(*self).pull(hull, line, neighbour, size)
     }
 }

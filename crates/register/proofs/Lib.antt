@@ -1,4 +1,5 @@
 pub mod Found
+pub mod Held
 pub mod Moves
 pub mod Placed
 pub mod Same

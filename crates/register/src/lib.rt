@@ -1,12 +1,12 @@
 //! An ordered register over memory that is lent to it, for every kind of element that has a key.
 #![tactic(auto)]
 
-ghost use Rattle.std.specs.Prelude.{◌≡◌, ℕ, ◌-◌, ◌<◌, ◌≤◌, List, [], ◌∷◌, ◌++◌, length, take, drop, replicate, is_ok, if◌then◌else◌, nat_le, nat_lt, slice_get, slice_set};
+ghost use Rattle.std.specs.Prelude.{◌≡◌, ℕ, ◌+◌, ◌-◌, ◌<◌, ◌≤◌, List, [], ◌∷◌, ◌++◌, length, take, drop, replicate, None, is_ok, is_some, if◌then◌else◌, nat_le, nat_lt, slice_get, slice_set};
 ghost use Rattle.std.specs.List.{remove};
 ghost use Rattle.register.specs.Keys.{place_of, first_from, rank, placed, each_changed};
 
 /// An element with a key; a free place of a register holds the vacant one.
-pub trait Keyed: Copy + Default {
+pub trait Keyed: Copy {
     ghost key: { Self → ℕ };
 
     ghost vacant: { Self };
@@ -14,7 +14,8 @@ pub trait Keyed: Copy + Default {
     fn key_of(&self) -> u16
         ensures { result ≡ key self.now };
 
-    ghost default_is_vacant: { (e : Self) → Self.is_default e → e ≡ vacant };
+    fn vacancy() -> Self
+        ensures { result ≡ vacant };
 }
 
 /// A change that can be made of every element. A trait, since of a closure a public call would require that it may be called, which asks more of callers.
@@ -34,7 +35,7 @@ pub struct Full;
 fn clear<E: Keyed>(places: &mut [E])
     ensures { places.new ≡ replicate (length places.old) E.Keyed.vacant }
 {
-    let vacant = E::default();
+    let vacant = E::vacancy();
     places.fill_with(|| vacant);
 }
 
@@ -60,13 +61,29 @@ fn put_in<E: Keyed>(places: &mut [E], e: E)
     places[place..].rotate_right(1);
 }
 
+// The same among the first `count` places.
+fn put_among<E: Keyed>(slots: &mut [E], count: usize, e: E)
+    requires { count < length slots.old }
+    ensures { slots.new ≡ placed E.Keyed.key e (take count slots.old) ++ drop (count + 1) slots.old }
+{
+    put_in(&mut slots[..count + 1], e);
+}
+
 // Takes an element out; those after it move down, and the last place becomes vacant.
 fn take_out<E: Keyed>(places: &mut [E], place: usize)
     requires { place < length places.old }
     ensures { places.new ≡ remove places.old place ++ E.Keyed.vacant ∷ [] }
 {
-    places[place] = E::default();
+    places[place] = E::vacancy();
     places[place..].rotate_left(1);
+}
+
+// The same among the first `count` places.
+fn take_from<E: Keyed>(slots: &mut [E], count: usize, place: usize)
+    requires { (place < count) × (count ≤ length slots.old) }
+    ensures { slots.new ≡ remove (take count slots.old) place ++ E.Keyed.vacant ∷ drop count slots.old }
+{
+    take_out(&mut slots[..count], place);
 }
 
 // Puts what a change gives in the place of each element. A loop, since after `for_each` the proof knows nothing of what `iter_mut` lent.
@@ -78,25 +95,34 @@ fn change_all<E: Copy, C: Change<E>>(elements: &mut [E], change: &C)
     }
 }
 
-/// The first `count` of the lent places hold the elements, the others are free and vacant. Memory is lent, since no library here takes its own: so a
-/// count stands beside the slice, here and nowhere else.
+// The same among the first `count` places.
+fn change_first<E: Copy, C: Change<E>>(slots: &mut [E], count: usize, change: &C)
+    requires { count ≤ length slots.old }
+    ensures { slots.new ≡ each_changed (C.gives change.now) (take count slots.old) ++ drop count slots.old }
+{
+    change_all(&mut slots[..count], change);
+}
+
+/// The first `count` of the lent places hold the elements, the others are free. Memory is lent, since no library here takes its own: so a count stands
+/// beside the slice, here and nowhere else. Both are the caller's too, and each method answers for any two; those that change elements keep a register tidy.
 #[derive(Drop)]
 pub struct Register<'a, E: Keyed> {
-    slots: &'a mut [E],
-    count: usize,
-    ghost fits: { count ≤ length slots.now },
-    ghost rest: { drop count slots.now ≡ replicate (length slots.now - count) E.Keyed.vacant },
+    pub slots: &'a mut [E],
+    pub count: usize,
 }
 
 // A method that changes elements says for itself that the places are the same: a struct has no place for what none of its methods changes.
 impl<'a, E: Keyed> Register<'a, E> {
-    ghost use Rattle.register.specs.Registers.{elements_of, room_of, SamePlaces};
+    ghost use Rattle.register.specs.Registers.{elements_of, room_of, SamePlaces, Tidy, held};
 
     /// A register with no element: every place is made vacant.
     pub fn new(slots: &'a mut [E]) -> Register<'a, E>
+        ensures count { result.count ≡ 0 }
+        ensures slots { result.slots.now ≡ replicate (length slots.old) E.Keyed.vacant }
         ensures elements { elements_of result ≡ [] }
         ensures room { room_of result ≡ length slots.old }
         ensures same_reference { result.slots.ghost_name ≡ slots.entry.ghost_name }
+        ensures tidy { Tidy E.Keyed.vacant result }
     {
         clear(&mut *slots);
         Register { slots, count: 0 }
@@ -106,14 +132,15 @@ impl<'a, E: Keyed> Register<'a, E> {
     pub fn elements(&self) -> &[E]
         ensures { result.now ≡ elements_of self.now }
     {
-        &self.slots[..self.count]
+        let slots = &*self.slots;
+        slots.get(..self.count).unwrap_or(slots)
     }
 
     /// Whether no place is free.
     pub fn is_full(&self) -> bool
-        ensures { result ≡ nat_le (room_of self.now) (length (elements_of self.now)) }
+        ensures { result ≡ nat_le (room_of self.now) self.now.count }
     {
-        self.count == self.slots.len()
+        self.slots.len() <= self.count
     }
 
     // From the front, since the register does not know that keys rise.
@@ -132,51 +159,72 @@ impl<'a, E: Keyed> Register<'a, E> {
         self.elements().iter().find(|e| e.key_of() >= key).copied()
     }
 
+    // The element at a place; none where there is none, or the count is above the number of places.
+    fn held_at(&self, place: usize) -> Option<E>
+        ensures { result ≡ held self.now place }
+    {
+        if self.count > self.slots.len() {
+            return None;
+        }
+        self.elements().get(place).copied()
+    }
+
     /// Puts an element among the others, in the order of keys; those after it move up. Refused, and nothing changes, where no place is free.
+    #[tactic(auto, using(crate::proofs::Held::put_in_front))]
     pub fn insert(&mut self, e: E) -> Result<(), Full>
-        ensures answer { is_ok result ≡ nat_lt (length (elements_of self.old)) (room_of self.old) }
+        ensures answer { is_ok result ≡ nat_lt self.old.count (room_of self.old) }
+        ensures slots { self.new.slots.now ≡ (if is_ok result then placed E.Keyed.key e (elements_of self.old) ++ drop (self.old.count + 1) self.old.slots.now else self.old.slots.now) }
+        ensures count { self.new.count ≡ (if is_ok result then self.old.count + 1 else self.old.count) }
         ensures elements { elements_of self.new ≡ (if is_ok result then placed E.Keyed.key e (elements_of self.old) else elements_of self.old) }
         ensures places { SamePlaces self.old self.new }
+        ensures tidy { Tidy E.Keyed.vacant self.old → Tidy E.Keyed.vacant self.new }
     {
         if self.is_full() {
             return Err(Full);
         }
+        put_among(&mut *self.slots, self.count, e);
         self.count += 1;
-        let count = self.count;
-        put_in(&mut self.slots[..count], e);
         Ok(())
     }
 
     /// Takes the element at a place out, if there is one; those after it move down, and the place left over becomes vacant.
     pub fn remove(&mut self, place: usize) -> Option<E>
-        ensures answer { result ≡ slice_get (elements_of self.old) place }
-        ensures elements { elements_of self.new ≡ remove (elements_of self.old) place }
+        ensures answer { result ≡ held self.old place }
+        ensures slots { self.new.slots.now ≡ (if is_some result then remove (elements_of self.old) place ++ E.Keyed.vacant ∷ drop self.old.count self.old.slots.now else self.old.slots.now) }
+        ensures count { self.new.count ≡ (if is_some result then self.old.count - 1 else self.old.count) }
+        ensures elements { self.old.count ≤ room_of self.old → elements_of self.new ≡ remove (elements_of self.old) place }
         ensures places { SamePlaces self.old self.new }
+        ensures tidy { Tidy E.Keyed.vacant self.old → Tidy E.Keyed.vacant self.new }
     {
-        let e = *self.elements().get(place)?;
-        let count = self.count;
-        take_out(&mut self.slots[..count], place);
+        let e = self.held_at(place)?;
+        take_from(&mut *self.slots, self.count, place);
         self.count -= 1;
         Some(e)
     }
 
     /// Puts another element in the place of one, if there is one, and answers which stood there.
     pub fn replace(&mut self, place: usize, e: E) -> Option<E>
-        ensures answer { result ≡ slice_get (elements_of self.old) place }
-        ensures elements { elements_of self.new ≡ slice_set (elements_of self.old) place e }
+        ensures answer { result ≡ held self.old place }
+        ensures slots { self.new.slots.now ≡ (if is_some result then slice_set self.old.slots.now place e else self.old.slots.now) }
+        ensures count { self.new.count ≡ self.old.count }
+        ensures elements { self.old.count ≤ room_of self.old → elements_of self.new ≡ slice_set (elements_of self.old) place e }
         ensures places { SamePlaces self.old self.new }
+        ensures tidy { Tidy E.Keyed.vacant self.old → Tidy E.Keyed.vacant self.new }
     {
-        let old = *self.elements().get(place)?;
+        let old = self.held_at(place)?;
         self.slots[place] = e;
         Some(old)
     }
 
-    /// Makes the change of every element. The elements are not lent as a `&mut`: past ghost fields that gets no proof.
+    /// Makes the change of every element. The elements are not lent as a `&mut`: past ghost fields of what holds a register that gets no proof.
     pub fn change_each<C: Change<E>>(&mut self, change: &C)
+        ensures slots { self.new.slots.now ≡ each_changed (C.gives change.now) (elements_of self.old) ++ drop self.old.count self.old.slots.now }
+        ensures count { self.new.count ≡ self.old.count }
         ensures elements { elements_of self.new ≡ each_changed (C.gives change.now) (elements_of self.old) }
         ensures places { SamePlaces self.old self.new }
+        ensures tidy { Tidy E.Keyed.vacant self.old → Tidy E.Keyed.vacant self.new }
     {
-        let count = self.count;
-        change_all(&mut self.slots[..count], change);
+        let count = self.count.min(self.slots.len());
+        change_first(&mut *self.slots, count, change);
     }
 }

@@ -16,6 +16,7 @@ use Rattle.trial.specs.Trials.{laid_at, lay_at}
 use Rattle.sheet.specs.declared.sheet.Sheet.{Sheet}
 use Rattle.sheet.specs.contracts.sheet.Sheet.{struct, the_type}
 use Rattle.sheet.specs.Laid.{Laid}
+use Rattle.sheet.proofs.Keeping.{tidy}
 
 -- what is laid on a line laid again, after another size, leaves the lines as they were
 laid-back : (ls : List Line) (i v : ℕ) → laid_at (laid_at ls i v) i (get_or ls i no_line).laid ≡ ls
@@ -44,7 +45,7 @@ pub sheet-back : (s t u : Sheet) (i v w : ℕ) → Laid s i v t → w ≡ (get_o
 sheet-back s t u i v w laid old again =
     let ls = elements_of s.lines in
     let lines : elements_of u.lines ≡ ls = again.lines ∙ ap (λ l. lay_at l i w) laid.lines ∙ ap (lay_at (lay_at ls i v) i) old ∙ lay_back ls i v s.limits in
-    same_sheet u s (same_register (record { mir = named 0; lft = [] }) (row the_line) _ _ s.lines u.lines (record { room = again.places.room ∙ laid.places.room; pointer = again.places.pointer ∙ laid.places.pointer; name = again.places.name ∙ laid.places.name }) lines)
+    same_sheet u s (same_register (record { mir = named 0; lft = [] }) (row the_line) no_line s.lines u.lines (tidy s) (tidy u) (record { room = again.places.room ∙ laid.places.room; pointer = again.places.pointer ∙ laid.places.pointer; name = again.places.name ∙ laid.places.name }) lines)
     (again.hull ∙ laid.hull) (again.settled ∙ laid.settled)
 
 -- a line with a size that may be laid keeps the limits

@@ -3,9 +3,9 @@ ghost use Rattle.std.specs.Prelude.{◌≡◌};
 ghost use Rattle.sizing.specs.Books.{numbered};
 
 use aluminium::Aluminium;
-use clauses::book::Clauses;
 use plastic::Plastic;
 use steel::Steel;
+use terms::book::RuleBook;
 use terms::ground::Ground;
 use terms::refusal::Refusal;
 

@@ -2,18 +2,19 @@
 #![tactic(auto)]
 
 ghost use Rattle.std.specs.Prelude.{◌≡◌};
-ghost use Rattle.steel.specs.Steel.{clauses, rising, proportioned};
+ghost use Rattle.steel.specs.Steel.{steel, steel_law, clauses, rising, proportioned};
 
 use crate::kind::Kind;
-use clauses::book::Clauses;
+use clauses::book::{ByClauses, Clauses};
 use clauses::panel::{bending_of, is_spanned};
 use clauses::rounding::{divided_up, percentage};
+use terms::book::RuleBook;
 use terms::entry::Entry;
 use terms::hull::Hull;
 
 pub mod kind;
 
-/// The clauses for steel small craft; `ByClauses(Steel)` is the rule book.
+/// The rules for steel small craft.
 #[derive(Clone, Copy)]
 pub struct Steel;
 
@@ -63,5 +64,31 @@ impl Clauses for Steel {
             (Ok(Kind::SponsonClosingPlate), Ok(Kind::SidePlate)) => percentage(80, size),
             _ => 0,
         }
+    }
+}
+
+// Alike in the three books, and stands in each: `clauses` may not write it for every book, since the trait is of `terms`, and a macro of our own may write no impl.
+/// Each question is answered by the rule book that the clauses make.
+impl RuleBook for Steel {
+    const NUMBER: u8 = <Steel as Clauses>::NUMBER;
+
+    ghost meaning = { λ _. steel };
+
+    ghost law = { λ _. steel_law };
+
+    fn fits(&mut self, hull: Hull, line: Entry) -> bool {
+        ByClauses(*self).fits(hull, line)
+    }
+
+    fn is_plate(&mut self, hull: Hull, line: Entry) -> bool {
+        ByClauses(*self).is_plate(hull, line)
+    }
+
+    fn own_size(&mut self, hull: Hull, line: Entry) -> u16 {
+        ByClauses(*self).own_size(hull, line)
+    }
+
+    fn pull(&mut self, hull: Hull, line: Entry, neighbour: Entry, size: u16) -> u16 {
+        ByClauses(*self).pull(hull, line, neighbour, size)
     }
 }

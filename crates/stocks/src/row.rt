@@ -1,5 +1,4 @@
 //! A row of a stock.
-ghost use Rattle.std.proofs.Common.{rules};
 ghost use Rattle.stocks.specs.RowLists.{no_row, size_of};
 
 use register::Keyed;
@@ -20,5 +19,7 @@ impl Keyed for Row {
         self.size
     }
 
-    ghost default_is_vacant = { Prim.search rules };
+    fn vacancy() -> Row {
+        Row::default()
+    }
 }

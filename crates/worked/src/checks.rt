@@ -1,6 +1,5 @@
 //! Designs that were judged by hand, by the steel and the plastic book.
 use crate::said::{BOAT, Judged, entry, judged, used};
-use clauses::book::ByClauses;
 use plastic::Plastic;
 use sheet::sheet::Sheet;
 use std::test::Fail;
@@ -46,7 +45,7 @@ fn steel(laid: [u16; 4]) -> Result<Judged, Fail> {
     let mut plates = Rows::new(&mut room);
     rows(&mut plates)?;
     let mut stiffeners = BuildUp::new(100, 100, 100)?;
-    Ok(judged(sheet.check(&mut ByClauses(Steel), &mut plates, &mut stiffeners)))
+    Ok(judged(sheet.check(&mut Steel, &mut plates, &mut stiffeners)))
 }
 
 #[test]
@@ -80,7 +79,7 @@ fn plastic(laid: [u16; 5], keelson_names: bool) -> Result<Judged, Fail> {
     )?;
     let mut plates = BuildUp::new(200, 150, 20)?;
     let mut stiffeners = BuildUp::new(100, 100, 100)?;
-    Ok(judged(sheet.check(&mut ByClauses(Plastic), &mut plates, &mut stiffeners)))
+    Ok(judged(sheet.check(&mut Plastic, &mut plates, &mut stiffeners)))
 }
 
 #[test]
@@ -131,22 +130,22 @@ fn refused_checks(rt: HostRuntime) -> Result<(), Fail> {
     sheet.enter(entry(8, 78, 0, 0, 99))?;
     sheet.enter(entry(9, 21, 0, 98, 0))?;
     assert_eq!(rt;
-        judged(sheet.check(&mut ByClauses(Plastic), &mut plates, &mut stiffeners)),
+        judged(sheet.check(&mut Plastic, &mut plates, &mut stiffeners)),
         Err((31, 0))
     );
     sheet.set_hull(BOAT)?;
     assert_eq!(rt;
-        judged(sheet.check(&mut ByClauses(Plastic), &mut plates, &mut stiffeners)),
+        judged(sheet.check(&mut Plastic, &mut plates, &mut stiffeners)),
         Err((32, 8))
     );
     sheet.amend(entry(8, 78, 0, 0, 0))?;
     assert_eq!(rt;
-        judged(sheet.check(&mut ByClauses(Plastic), &mut plates, &mut stiffeners)),
+        judged(sheet.check(&mut Plastic, &mut plates, &mut stiffeners)),
         Err((32, 9))
     );
     sheet.amend(entry(9, 21, 0, 7, 8))?;
     assert_eq!(rt;
-        judged(sheet.check(&mut ByClauses(Plastic), &mut plates, &mut stiffeners)),
+        judged(sheet.check(&mut Plastic, &mut plates, &mut stiffeners)),
         Err((33, 7))
     );
     Ok(())
@@ -169,7 +168,7 @@ fn tried_sizes(rt: HostRuntime) -> Result<(), Fail> {
     )?;
     let first = first_passing(
         &mut sheet,
-        &mut ByClauses(Plastic),
+        &mut Plastic,
         &mut plates,
         &mut stiffeners,
         30,
@@ -179,7 +178,7 @@ fn tried_sizes(rt: HostRuntime) -> Result<(), Fail> {
     assert_eq!(rt;
         judged(sheet_verdict_with(
             &mut sheet,
-            &mut ByClauses(Plastic),
+            &mut Plastic,
             &mut plates,
             &mut stiffeners,
             10,
@@ -190,7 +189,7 @@ fn tried_sizes(rt: HostRuntime) -> Result<(), Fail> {
     assert_eq!(rt;
         judged(sheet_verdict_with(
             &mut sheet,
-            &mut ByClauses(Plastic),
+            &mut Plastic,
             &mut plates,
             &mut stiffeners,
             99,
@@ -201,7 +200,7 @@ fn tried_sizes(rt: HostRuntime) -> Result<(), Fail> {
     assert_eq!(rt;
         judged(sheet_verdict_with(
             &mut sheet,
-            &mut ByClauses(Plastic),
+            &mut Plastic,
             &mut plates,
             &mut stiffeners,
             10,
@@ -210,7 +209,7 @@ fn tried_sizes(rt: HostRuntime) -> Result<(), Fail> {
         Err((28, 10))
     );
     assert_eq!(rt;
-        judged(sheet.check(&mut ByClauses(Plastic), &mut plates, &mut stiffeners)),
+        judged(sheet.check(&mut Plastic, &mut plates, &mut stiffeners)),
         Ok(Err((30, 3, 10)))
     );
     Ok(())

@@ -1,6 +1,5 @@
 //! A rule book that keeps count of its questions.
 use crate::said::BOAT;
-use clauses::book::ByClauses;
 use steel::Steel;
 use terms::book::RuleBook;
 use terms::entry::Entry;
@@ -48,7 +47,7 @@ fn a_book_may_count(rt: HostRuntime) {
         kind: 4,
         ..Entry::default()
     };
-    let mut book = ByClauses(Steel);
+    let mut book = Steel;
     let mut counted = Counted {
         book: &mut book,
         asked: 0,

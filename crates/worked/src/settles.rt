@@ -1,7 +1,6 @@
 //! Sheets that were settled by hand.
 use crate::checks::{drawn, rows};
 use crate::said::{BOAT, entry, said, used};
-use clauses::book::ByClauses;
 use plastic::Plastic;
 use runs::back::lay_back;
 use runs::perform::perform_all;
@@ -33,14 +32,14 @@ fn steel_schedule(rt: HostRuntime) -> Result<(), Fail> {
             (entry(3, 3, 0, 2, 0), 0),
         ],
     )?;
-    sheet.settle(&mut ByClauses(Steel), &mut plates, &mut stiffeners)?;
+    sheet.settle(&mut Steel, &mut plates, &mut stiffeners)?;
     assert_eq!(rt; sheet.scheduled_size(1)?, 400);
     assert_eq!(rt; sheet.scheduled_size(2)?, 400);
     assert_eq!(rt; sheet.scheduled_size(3)?, 500);
     lay_back(
         &mut sheet,
         &[3, 1, 3],
-        &mut ByClauses(Steel),
+        &mut Steel,
         &mut plates,
         &mut stiffeners,
     )?;
@@ -48,7 +47,7 @@ fn steel_schedule(rt: HostRuntime) -> Result<(), Fail> {
     assert_eq!(rt; sheet.scheduled_size(3)?, 500);
     sheet.lay(1, 500)?;
     assert_eq!(rt;
-        said(sheet.settle(&mut ByClauses(Steel), &mut plates, &mut stiffeners)),
+        said(sheet.settle(&mut Steel, &mut plates, &mut stiffeners)),
         Err((34, 0))
     );
     Ok(())
@@ -71,17 +70,17 @@ fn plastic_schedule(rt: HostRuntime) -> Result<(), Fail> {
             (entry(30, 29, 0, 10, 20), 0),
         ],
     )?;
-    sheet.settle(&mut ByClauses(Plastic), &mut plates, &mut stiffeners)?;
+    sheet.settle(&mut Plastic, &mut plates, &mut stiffeners)?;
     assert_eq!(rt; sheet.scheduled_size(10)?, 800);
     assert_eq!(rt; sheet.scheduled_size(20)?, 800);
     assert_eq!(rt; sheet.scheduled_size(30)?, 500);
     assert_eq!(rt;
-        said(sheet.settle(&mut ByClauses(Plastic), &mut thin, &mut stiffeners)),
+        said(sheet.settle(&mut Plastic, &mut thin, &mut stiffeners)),
         Err((34, 0))
     );
     assert_eq!(rt; sheet.scheduled_size(30)?, 500);
     sheet.lay(10, 1_000)?;
-    sheet.settle(&mut ByClauses(Plastic), &mut plates, &mut stiffeners)?;
+    sheet.settle(&mut Plastic, &mut plates, &mut stiffeners)?;
     assert_eq!(rt; sheet.scheduled_size(10)?, 1_100);
     assert_eq!(rt; sheet.scheduled_size(20)?, 800);
     assert_eq!(rt; sheet.scheduled_size(30)?, 650);
@@ -102,12 +101,12 @@ fn a_chain_of_96(rt: HostRuntime) -> Result<(), Fail> {
         sheet.enter(entry(mark, kind, 0, next, 0))?;
     }
     sheet.lay(96, 750)?;
-    sheet.settle(&mut ByClauses(Steel), &mut plates, &mut stiffeners)?;
+    sheet.settle(&mut Steel, &mut plates, &mut stiffeners)?;
     for mark in 1..97u16 {
         assert_eq!(rt; sheet.scheduled_size(mark)?, 800);
     }
     sheet.lay(96, 60_000)?;
-    sheet.settle(&mut ByClauses(Steel), &mut plates, &mut stiffeners)?;
+    sheet.settle(&mut Steel, &mut plates, &mut stiffeners)?;
     assert_eq!(rt; sheet.scheduled_size(1)?, 60_000);
     Ok(())
 }
@@ -135,7 +134,7 @@ fn a_run_of_calls(rt: HostRuntime) -> Result<(), Fail> {
         &mut sheet,
         &steps,
         &mut answers,
-        &mut ByClauses(Plastic),
+        &mut Plastic,
         &mut plates,
         &mut stiffeners,
     );

@@ -7,9 +7,9 @@ use Rattle.trial.proofs.place_for.Goals as goal
 pub returns-in_err-place : goal.returns-in_err-place
 returns-in_err-place g c =
     let at = g.S.Lines.contents c.args.lines.now in
-    refused at c.args.mark c.args.size (refusal_of MarkUnknown c.args.mark) c.from_residual.result (unknown at c.args.mark c.args.size (sym c.place_of-found.ensures ∙ c.in_err-place.ensures.ok_part)) (search rules)
+    refused at c.args.mark c.args.size (refusal_of MarkUnknown c.args.mark) c.from_residual.result (unknown at c.args.mark c.args.size (search rules)) (search rules)
 
 pub returns-then-size-gt-LARGEST_SIZE : goal.returns-then-size-gt-LARGEST_SIZE
 returns-then-size-gt-LARGEST_SIZE g c =
-    too_large (g.S.Lines.contents c.args.lines.now) c.args.mark c.args.size c.in_ok-place.place (sym c.place_of-found.ensures ∙ c.in_ok-place.ensures.ok_part) c.if-size-gt-LARGEST_SIZE.true
+    too_large (g.S.Lines.contents c.args.lines.now) c.args.mark c.args.size c.in_ok-place.place (search rules) c.if-size-gt-LARGEST_SIZE.true
     ∙ ap Err (sym (search rules))

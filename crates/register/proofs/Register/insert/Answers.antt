@@ -1,5 +1,6 @@
-use Rattle.register.proofs.Vacant.{one_less}
+use Rattle.std.proofs.Common.{refl, rules}
+use Rattle.register.proofs.Held.{put_tidy}
 use Rattle.register.proofs.Register.insert.Goals as goal
 
-pub invariant_of-self-clause-rest : goal.invariant_of-self-clause-rest
-invariant_of-self-clause-rest g c = let s = c.args.self.now in one_less g.E.Keyed.vacant s.count s.slots.now s.rest
+pub returns-clause-tidy : goal.returns-clause-tidy
+returns-clause-tidy g c = λ tidy. put_tidy g.E.Keyed.key g.E.Keyed.vacant c.args.e c.args.self.now _ (search rules) (search rules) refl tidy

@@ -15,7 +15,7 @@ invariant_of-self c =
     let ls = lines_of s in
     let line = c.args.line in
     let e = c.insert-added.ensures in
-    still_sheet s _ e.places e.elements
+    still_sheet s _ e.places e.tidy e.elements
     (cond_both (is_ok c.insert-added.result) (placed mark_of line ls) ls Orderly
     (λ _. (climbs-placed mark_of line 0 ls s.climbing c.requires.marked (no_place (mark_of line) ls c.requires.new), each_placed line_kept mark_of line ls c.requires.kept s.limits))
     (λ _. (s.climbing, s.limits)))

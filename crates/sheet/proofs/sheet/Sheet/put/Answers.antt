@@ -14,4 +14,4 @@ invariant_of-self c =
     let ls = lines_of s in
     let e = c.replace.ensures in
     let same = c.requires.mark ∙ ap mark_of (get_or_default ls c.args.place no_line c.args.line c.requires.place) in
-    still_sheet s _ e.places e.elements (climbs-set mark_of 0 ls c.args.place c.args.line same ∙ s.climbing, and_set (each line_kept) line_kept refl (λ _ _. refl) ls c.args.place c.args.line c.requires.kept s.limits)
+    still_sheet s _ e.places e.tidy (e.elements s.fits) (climbs-set mark_of 0 ls c.args.place c.args.line same ∙ s.climbing, and_set (each line_kept) line_kept refl (λ _ _. refl) ls c.args.place c.args.line c.requires.kept s.limits)

@@ -9,4 +9,4 @@ pub invariant_of-self : goal.invariant_of-self
 invariant_of-self c =
     let s = c.args.self.now in
     let e = c.remove.ensures in
-    still_sheet s _ e.places e.elements (climbs_removed mark_of 0 (lines_of s) c.args.place s.climbing, each_removed line_kept (lines_of s) c.args.place s.limits)
+    still_sheet s _ e.places e.tidy (e.elements s.fits) (climbs_removed mark_of 0 (lines_of s) c.args.place s.climbing, each_removed line_kept (lines_of s) c.args.place s.limits)

@@ -28,5 +28,5 @@ pub returns-in_err-sizes-clause-settles : goal.returns-in_err-sizes-clause-settl
 returns-in_err-sizes-clause-settles g c =
     let t = c.args.self.now in
     refused (g.D.DesignBasis.setting c.args.basis.now) _ (contents t) c.hull.result c.lines.result.now c.lines-2.result.now c.ready_hull.result c.in_ok-hull.hull c.in_ok-hull.was c.ready_hull.ensures.value
-    c.hull.ensures c.lines.ensures c.lines-2.ensures c.ready_hull.ensures.kept.same (omega (arith, length-elements t.lines, t.lines.fits, t.small)) c.least_schedule-found.result c.least_schedule-found.ensures.least c.in_err-sizes.ensures.ok_part
+    c.hull.ensures c.lines.ensures c.lines-2.ensures c.ready_hull.ensures.kept.same (omega (arith, length-elements t.lines t.fits, t.small)) c.least_schedule-found.result c.least_schedule-found.ensures.least c.in_err-sizes.ensures.ok_part
     c.from_residual-in_err-sizes.result (search rules)

@@ -14,7 +14,7 @@ invariant_of-self c =
     let ls = lines_of s in
     let e = c.change_each.ensures in
     let f = λ (i : ℕ). scheduled_as (listed c.args.sizes.now i) in
-    still_sheet s _ e.places e.elements (climbs-changed mark_of f (λ _ _. refl) 0 ls ∙ s.climbing, each-changed line_kept f (λ _ _. refl) ls ∙ s.limits)
+    still_sheet s _ e.places e.tidy e.elements (climbs-changed mark_of f (λ _ _. refl) 0 ls ∙ s.climbing, each-changed line_kept f (λ _ _. refl) ls ∙ s.limits)
 
 pub returns : goal.returns
 returns c =

@@ -13,7 +13,10 @@ invariant_of-self c =
     let ok = is_ok c.insert.result in
     let new = sym c.has_size.ensures ∙ c.if-has_size.false in
     let range : (0 < row.size) × (row.size ≤ 60000) = grind (arith, nat_tests) in
+    let tidy = c.insert.ensures.tidy (record { fits = s.fits; rest = s.rest }) in
     record {
+      fits = tidy.fits;
+      rest = tidy.rest;
       climbing = ap (climbs size_of 0) c.insert.ensures.elements ∙ still_climbing row (rows_of s) range.0 range.1 new ok s.climbing;
       within = ap (each is_small) c.insert.ensures.elements ∙ still_small row (rows_of s) range.0 range.1 new ok s.within;
     }
